@@ -1,0 +1,8 @@
+-- Words of a line.
+use Rattle.std.specs.Prelude.{ℕ, ◌+◌, List, take, drop, position, ◌==◌}
+use Rattle.std.specs.Option.{option_map}
+use Rattle.std.specs.declared.option.Option.{Option}
+
+-- what stands before the first such byte, and what stands after it
+unfoldable pub parts_at : ℕ → List ℕ → Option (List ℕ × List ℕ)
+parts_at byte text = option_map (λ place. (take place text, drop (place + 1) text)) (position (λ x. x == byte) text)

@@ -1,0 +1,14 @@
+//! What is asked for and from where: hosts, endpoints and targets, the rules that forbid a delivery,
+//! and the limits of a node.
+#![tactic(auto)]
+
+mod endpoint;
+mod limits;
+mod rule;
+mod target;
+
+pub use endpoint::{Endpoint, EndpointFault, EndpointList, HostName};
+pub use limits::Limits;
+pub use listing::{Listing, Text, TextList};
+pub use rule::Rule;
+pub use target::{Asked, Protocol, SourceItem, SourceItemList, Target};

@@ -1,0 +1,13 @@
+use Rattle.std.proofs.Common.{sym, ◌∙◌}
+use Rattle.metadata_objects.specs.Source.{source_in}
+use Rattle.metadata_objects.proofs.Loops.{each_goes_on, each_stops, each_done}
+use Rattle.metadata_objects.proofs.source.each_source.Goals as goal
+
+pub returns-in_default : goal.returns-in_default
+returns-in_default c = each_stops source_in c.args.items.now c.items.i c.items.list _ c.items.invariant c.index-items-i.result c.items-test.true c.index-items-i.is (sym c.in_default.is ∙ c.in_ok-source.ensures)
+
+pub items-preserved : goal.items-preserved
+items-preserved c = rw c.in_ok-push.ensures.ok (each_goes_on source_in c.args.items.now c.items.i c.items.list _ c.items.invariant c.index-items-i.result c.items-test.true c.index-items-i.is _ (sym c.in-Some.is ∙ c.in_ok-source.ensures))
+
+pub returns : goal.returns
+returns c = each_done source_in c.args.items.now c.items.i c.items.list _ c.items.invariant c.items-test.false

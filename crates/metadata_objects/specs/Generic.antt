@@ -1,0 +1,43 @@
+-- GenericMetadata (RFC 8006, section 4.1.7).
+use Rattle.std.specs.Prelude.{ℕ, ◌+◌, Bool, true, false, List, [], codes, bytes_eq, length, None, Some, Ok, Err, nat_lt, nat_le, ◌&&◌, if◌then◌else◌}
+use Rattle.std.specs.Option.{option_map_or}
+use Rattle.std.specs.Str.{str_to_ascii_lowercase}
+use Rattle.std.specs.declared.option.Option.{Option}
+use Rattle.std.specs.declared.result.Result.{Result}
+use Rattle.serde_json.specs.Data.{Data, Items}
+use Rattle.json_read.specs.Field.{◌>>=◌, needed}
+use Rattle.json_read.specs.Path.{child_of}
+use Rattle.metadata_objects.specs.Reading.{Reading, counted, no_link, needed_text, in_range, field, flag_or, all_of}
+use Rattle.metadata_objects.specs.Source.{sources_in}
+use Rattle.metadata_objects.specs.declared.generic.Generic.{Generic}
+use Rattle.metadata_objects.specs.declared.generic.Held.{Held}
+use Rattle.metadata_objects.specs.declared.generic.Held.TheVariants as held
+
+-- a type name of 1 to 127 bytes, in lower case
+unfoldable pub kind_of : List ℕ → Option (List ℕ)
+kind_of text = if nat_lt 0 (length text) && nat_le (length text) 127 then Some (str_to_ascii_lowercase text) else None
+
+-- what is understood of a value: that of MI.SourceMetadata, where it reads
+unfoldable pub understood : List ℕ → Data → Held
+understood kind value = if bytes_eq kind (codes "mi.sourcemetadata") then option_map_or held.Source (sources_in value) held.NotUnderstood else held.NotUnderstood
+
+-- what is held of an object; one that says so is not understood
+abbrev pub held_of : Bool → List ℕ → Data → Held
+held_of incomprehensible kind value = if incomprehensible then held.NotUnderstood else understood kind value
+
+-- the object, and how many objects were counted with it
+unfoldable pub generic_of : List ℕ → ℕ → Data → Reading (Generic × ℕ)
+generic_of path n value = do
+  m ← counted n
+  plain ← no_link path value
+  text ← needed_text path (codes "generic-metadata-type") value
+  kind ← in_range (child_of path (codes "generic-metadata-type")) (kind_of text)
+  inner ← field (needed path (codes "generic-metadata-value") value)
+  mandatory ← flag_or path (codes "mandatory-to-enforce") true value
+  redistribute ← flag_or path (codes "safe-to-redistribute") true value
+  incomprehensible ← flag_or path (codes "incomprehensible") false value
+  Ok (record { kind = kind; mandatory = mandatory; redistribute = redistribute; held = held_of incomprehensible kind inner }, m)
+
+-- the objects of a list
+abbrev pub generics_of : List ℕ → ℕ → Items → Reading (List Generic × ℕ)
+generics_of path n items = all_of generic_of path 0 n items

@@ -1,0 +1,4 @@
+pub mod Generic
+pub mod Host
+pub mod Reading
+pub mod Source

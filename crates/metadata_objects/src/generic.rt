@@ -1,0 +1,98 @@
+//! GenericMetadata (RFC 8006, section 4.1.7).
+
+ghost use Rattle.std.specs.Prelude.{◌≡◌, IfOk};
+ghost use Rattle.serde_json.specs.View.{view, items_view};
+ghost use Rattle.metadata_objects.specs.Reading.{Gives};
+ghost use Rattle.metadata_objects.specs.Generic.{kind_of, understood, held_of, generic_of, generics_of};
+
+use cdni_base::{Listing, SourceItemList, Text};
+use json_read::{JsonPath, Value, need};
+use std::alloc::{AllocError, Global};
+
+use crate::fault::MetaFault;
+use crate::object::{flag, one_more, out_of_range, refuse_link, text};
+use crate::source::sources_of;
+
+/// A metadata object of some type.
+#[derive(Drop)]
+pub struct Generic {
+    /// The type's name, 1 to 127 bytes in lower case.
+    pub kind: Text,
+    /// Whether the delivery is forbidden where this object is not understood.
+    pub mandatory: bool,
+    /// Whether the object may be passed on by a node that does not understand it.
+    pub redistribute: bool,
+    /// What is understood of it.
+    pub held: Held,
+}
+
+/// What is understood of a metadata object.
+#[derive(Drop)]
+pub enum Held {
+    /// MI.SourceMetadata (RFC 8006, section 4.2.1).
+    Source(SourceItemList),
+    /// Nothing.
+    NotUnderstood,
+}
+
+/// A list of metadata objects.
+pub type GenericList = Listing<Generic>;
+
+// the objects of the list at `path`, after `count` objects
+pub(crate) fn generics_at(alloc: Global, items: &[Value], path: &JsonPath, count: u32) -> Result<(GenericList, u32), MetaFault>
+    ensures { Gives (λ x. (x.0, x.1)) result (generics_of path.now count (items_view items.now)) }
+{
+    let mut list = Listing::new(alloc);
+    let mut so_far = count;
+    'items: for i in 0..items.len() {
+        let place = path.item(alloc, i)?;
+        let (generic, next) = generic_at(alloc, &items[i], &place, so_far)?;
+        list.push(generic)?;
+        so_far = next;
+    }
+    Ok((list, so_far))
+}
+
+// the object at `path`, after `count` objects
+#[tactic(auto, unfolding(crate::specs::Generic::generic_of))]
+fn generic_at(alloc: Global, value: &Value, path: &JsonPath, count: u32) -> Result<(Generic, u32), MetaFault>
+    ensures { Gives (λ x. (x.0, x.1)) result (generic_of path.now count (view value.now)) }
+{
+    let count = one_more(count)?;
+    refuse_link(alloc, value, path)?;
+    let name = text(alloc, value, path, "generic-metadata-type")?;
+    let Some(kind) = kind_at(alloc, name.as_bytes())? else {
+        return Err(out_of_range(alloc, path, "generic-metadata-type"));
+    };
+    let inner = need(alloc, value, path, "generic-metadata-value")?;
+    let mandatory = flag(alloc, value, path, "mandatory-to-enforce", true)?;
+    let redistribute = flag(alloc, value, path, "safe-to-redistribute", true)?;
+    let incomprehensible = flag(alloc, value, path, "incomprehensible", false)?;
+    let held = held_at(alloc, incomprehensible, &kind, inner)?;
+    Ok((Generic { kind, mandatory, redistribute, held }, count))
+}
+
+// a type's name in lower case, if it has 1 to 127 bytes
+#[tactic(auto, unfolding(crate::specs::Generic::kind_of))]
+fn kind_at(alloc: Global, name: &[u8]) -> Result<Option<Text>, AllocError>
+    ensures { IfOk result (λ found. found ≡ kind_of name.now) }
+{
+    if name.is_empty() || name.len() > 127 {
+        return Ok(None);
+    }
+    Ok(Some(Text::from_vec(name.iter().map(|byte| byte.to_ascii_lowercase()).collect(alloc)?)))
+}
+
+// what is held of a value of this type
+#[tactic(auto, unfolding(crate::specs::Generic::understood))]
+fn held_at(alloc: Global, incomprehensible: bool, kind: &Text, value: &Value) -> Result<Held, AllocError>
+    ensures { IfOk result (λ held. held ≡ held_of incomprehensible kind.now (view value.now)) }
+{
+    if incomprehensible || !kind.is(b"mi.sourcemetadata") {
+        return Ok(Held::NotUnderstood);
+    }
+    match sources_of(alloc, value)? {
+        Some(sources) => Ok(Held::Source(sources)),
+        None => Ok(Held::NotUnderstood),
+    }
+}

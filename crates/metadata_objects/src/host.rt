@@ -1,0 +1,143 @@
+//! HostIndex, HostMatch and HostMetadata (RFC 8006, sections 4.1.1 to 4.1.3).
+
+ghost use Rattle.std.specs.Prelude.{◌≡◌};
+ghost use Rattle.serde_json.specs.View.{view, items_view};
+ghost use Rattle.json_read.specs.Path.{IsName};
+ghost use Rattle.metadata_objects.specs.Reading.{Gives};
+ghost use Rattle.metadata_objects.specs.Host.{metadata_of, level_of, needed_level, host_match_of, hosts_of};
+
+use cdni_base::{Endpoint, EndpointFault, Listing};
+use json_read::{JsonPath, ParseFault, Value, list_at, maybe, need, parse};
+use std::alloc::Global;
+
+use crate::fault::MetaFault;
+use crate::generic::{GenericList, generics_at};
+use crate::object::{one_more, out_of_range, refuse_link, text};
+
+/// The hosts of a metadata tree, in order (RFC 8006, section 4.1.1).
+#[derive(Drop)]
+pub struct HostIndex {
+    pub hosts: HostMatchList,
+}
+
+/// A host and its metadata (RFC 8006, section 4.1.2).
+#[derive(Drop)]
+pub struct HostMatch {
+    pub host: Endpoint,
+    pub level: Level,
+}
+
+/// The metadata of one level (RFC 8006, section 4.1.3).
+#[derive(Drop)]
+pub struct Level {
+    pub metadata: GenericList,
+}
+
+/// A list of hosts.
+pub type HostMatchList = Listing<HostMatch>;
+
+impl HostIndex {
+    ghost use Rattle.metadata_objects.specs.Host.{host_index_of, host_index_of_text};
+
+    /// Reads the HostIndex of a JSON text of at most 8,388,608 bytes.
+    ///
+    /// # Errors
+    /// The first fault in the order of reading, or want of memory.
+    #[tactic(auto, unfolding(crate::specs::Host::host_index_of_text))]
+    pub fn read(alloc: Global, bytes: &[u8]) -> Result<HostIndex, MetaFault>
+        ensures { Gives (λ index. index) result (host_index_of_text bytes.now) }
+    {
+        if bytes.len() > 8388608 {
+            return Err(MetaFault::TooLong { len: bytes.len() });
+        }
+        match parse(alloc, bytes) {
+            Ok(value) => HostIndex::of_value(alloc, &value),
+            Err(ParseFault::NotJson) => Err(MetaFault::NotJson),
+            Err(ParseFault::Memory) => Err(MetaFault::Memory),
+        }
+    }
+
+    /// Reads the HostIndex of a JSON value.
+    ///
+    /// # Errors
+    /// The first fault in the order of reading, or want of memory.
+    #[tactic(auto, unfolding(crate::specs::Host::host_index_of))]
+    pub fn of_value(alloc: Global, value: &Value) -> Result<HostIndex, MetaFault>
+        ensures { Gives (λ index. index) result (host_index_of (view value.now)) }
+    {
+        let root = JsonPath::root(alloc);
+        let list = need(alloc, value, &root, "hosts")?;
+        let path = root.child(alloc, "hosts")?;
+        let items = list_at(alloc, list, &path)?;
+        let (hosts, _) = hosts_at(alloc, items, &path, 0)?;
+        Ok(HostIndex { hosts })
+    }
+}
+
+// the hosts of the list at `path`, after `count` objects
+fn hosts_at(alloc: Global, items: &[Value], path: &JsonPath, count: u32) -> Result<(HostMatchList, u32), MetaFault>
+    ensures { Gives (λ x. (x.0, x.1)) result (hosts_of path.now count (items_view items.now)) }
+{
+    let mut list = Listing::new(alloc);
+    let mut so_far = count;
+    'items: for i in 0..items.len() {
+        let place = path.item(alloc, i)?;
+        let (host, next) = host_match_at(alloc, &items[i], &place, so_far)?;
+        list.push(host)?;
+        so_far = next;
+    }
+    Ok((list, so_far))
+}
+
+// the HostMatch at `path`, after `count` objects
+#[tactic(auto, unfolding(crate::specs::Host::host_match_of))]
+fn host_match_at(alloc: Global, value: &Value, path: &JsonPath, count: u32) -> Result<(HostMatch, u32), MetaFault>
+    ensures { Gives (λ x. (x.0, x.1)) result (host_match_of path.now count (view value.now)) }
+{
+    let count = one_more(count)?;
+    refuse_link(alloc, value, path)?;
+    let name = text(alloc, value, path, "host")?;
+    let host = match Endpoint::read(alloc, name.as_bytes()) {
+        Ok(host) => host,
+        Err(EndpointFault::Memory) => return Err(MetaFault::Memory),
+        Err(_) => return Err(out_of_range(alloc, path, "host")),
+    };
+    let (level, count) = level_at_member(alloc, value, path, "host-metadata", count)?;
+    Ok((HostMatch { host, level }, count))
+}
+
+// the HostMetadata at the property `name` of the object at `path`, after `count` objects
+#[tactic(auto, unfolding(crate::specs::Host::needed_level))]
+fn level_at_member(alloc: Global, value: &Value, path: &JsonPath, name: &str, count: u32) -> Result<(Level, u32), MetaFault>
+    requires { IsName name.now }
+    ensures { Gives (λ x. (x.0, x.1)) result (needed_level path.now name.now count (view value.now)) }
+{
+    let member = need(alloc, value, path, name)?;
+    level_at(alloc, member, &path.child(alloc, name)?, count)
+}
+
+// the HostMetadata at `path`, after `count` objects
+#[tactic(auto, unfolding(crate::specs::Host::level_of))]
+fn level_at(alloc: Global, value: &Value, path: &JsonPath, count: u32) -> Result<(Level, u32), MetaFault>
+    ensures { Gives (λ x. (x.0, x.1)) result (level_of path.now count (view value.now)) }
+{
+    refuse_link(alloc, value, path)?;
+    let (metadata, count) = metadata_at(alloc, value, path, count)?;
+    if value.get("paths").is_some() {
+        return Err(out_of_range(alloc, path, "paths"));
+    }
+    Ok((Level { metadata }, count))
+}
+
+// the objects of the property `metadata` of the object at `path`, after `count` objects
+#[tactic(auto, unfolding(crate::specs::Host::metadata_of))]
+fn metadata_at(alloc: Global, value: &Value, path: &JsonPath, count: u32) -> Result<(GenericList, u32), MetaFault>
+    ensures { Gives (λ x. (x.0, x.1)) result (metadata_of path.now count (view value.now)) }
+{
+    let Some(list) = maybe(alloc, value, path, "metadata")? else {
+        return Ok((Listing::new(alloc), count));
+    };
+    let path = path.child(alloc, "metadata")?;
+    let items = list_at(alloc, list, &path)?;
+    generics_at(alloc, items, &path, count)
+}

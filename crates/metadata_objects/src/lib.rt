@@ -1,0 +1,12 @@
+//! The metadata objects of RFC 8006: a HostIndex is read whole, or refused with the exact place of its first fault.
+#![tactic(auto)]
+
+mod fault;
+mod generic;
+mod host;
+mod object;
+mod source;
+
+pub use fault::MetaFault;
+pub use generic::{Generic, GenericList, Held};
+pub use host::{HostIndex, HostMatch, HostMatchList, Level};

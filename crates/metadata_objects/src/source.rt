@@ -1,0 +1,109 @@
+//! The value of MI.SourceMetadata (RFC 8006, section 4.2.1).
+
+ghost use Rattle.std.specs.Prelude.{◌≡◌, IfOk, nat_le};
+ghost use Rattle.serde_json.specs.View.{view, items_view};
+ghost use Rattle.metadata_objects.specs.Source.{each_of, endpoint_in, source_in, sources_in, listed_sources, few_sources, endpoint_count};
+
+use cdni_base::{Endpoint, EndpointFault, EndpointList, Listing, SourceItem, SourceItemList, Text};
+use json_read::Value;
+use std::alloc::{AllocError, Global};
+
+// the sources of the value, if it reads
+#[tactic(auto, unfolding(crate::specs::Source::sources_in))]
+pub(crate) fn sources_of(alloc: Global, value: &Value) -> Result<Option<SourceItemList>, AllocError>
+    ensures { IfOk result (λ found. found ≡ sources_in (view value.now)) }
+{
+    if !value.is_object() {
+        return Ok(None);
+    }
+    let Some(list) = value.get("sources") else {
+        return Ok(Some(Listing::new(alloc)));
+    };
+    let Some(items) = list.as_array() else {
+        return Ok(None);
+    };
+    match each_source(alloc, items)? {
+        Some(sources) => Ok(few(sources)),
+        None => Ok(None),
+    }
+}
+
+// these sources, where they have at most 16 endpoints together
+fn few(sources: SourceItemList) -> Option<SourceItemList>
+    ensures { result ≡ few_sources sources }
+{
+    if count_endpoints(&sources) <= 16 { Some(sources) } else { None }
+}
+
+// how many endpoints the sources have together, or 17 where they have more
+fn count_endpoints(sources: &SourceItemList) -> usize
+    ensures { nat_le result 16 ≡ nat_le (endpoint_count sources.now) 16 }
+{
+    let mut count = 0;
+    'sources: for source in sources.as_slice() {
+        if source.endpoints.len() > 16 - count {
+            return 17;
+        }
+        count += source.endpoints.len();
+    }
+    count
+}
+
+fn each_source(alloc: Global, items: &[Value]) -> Result<Option<SourceItemList>, AllocError>
+    ensures { IfOk result (λ found. found ≡ each_of source_in (items_view items.now)) }
+{
+    let mut list = Listing::new(alloc);
+    'items: for i in 0..items.len() {
+        let Some(source) = source_of(alloc, &items[i])? else {
+            return Ok(None);
+        };
+        list.push(source)?;
+    }
+    Ok(Some(list))
+}
+
+#[tactic(auto, unfolding(crate::specs::Source::source_in))]
+fn source_of(alloc: Global, value: &Value) -> Result<Option<SourceItem>, AllocError>
+    ensures { IfOk result (λ found. found ≡ source_in (view value.now)) }
+{
+    if value.get("acquisition-auth").is_some() {
+        return Ok(None);
+    }
+    let Some(protocol) = value.get("protocol").and_then(Value::as_str) else {
+        return Ok(None);
+    };
+    let Some(items) = value.get("endpoints").and_then(Value::as_array) else {
+        return Ok(None);
+    };
+    let Some(endpoints) = each_endpoint(alloc, items)? else {
+        return Ok(None);
+    };
+    Ok(Some(SourceItem { protocol: Text::of(alloc, protocol.as_bytes())?, endpoints }))
+}
+
+fn each_endpoint(alloc: Global, items: &[Value]) -> Result<Option<EndpointList>, AllocError>
+    ensures { IfOk result (λ found. found ≡ each_of endpoint_in (items_view items.now)) }
+{
+    let mut list = Listing::new(alloc);
+    'items: for i in 0..items.len() {
+        let Some(endpoint) = endpoint_of(alloc, &items[i])? else {
+            return Ok(None);
+        };
+        list.push(endpoint)?;
+    }
+    Ok(Some(list))
+}
+
+#[tactic(auto, unfolding(crate::specs::Source::endpoint_in))]
+fn endpoint_of(alloc: Global, value: &Value) -> Result<Option<Endpoint>, AllocError>
+    ensures { IfOk result (λ found. found ≡ endpoint_in (view value.now)) }
+{
+    let Some(text) = value.as_str() else {
+        return Ok(None);
+    };
+    match Endpoint::read(alloc, text.as_bytes()) {
+        Ok(endpoint) => Ok(Some(endpoint)),
+        Err(EndpointFault::Memory) => Err(AllocError),
+        Err(_) => Ok(None),
+    }
+}

@@ -1,8 +1,14 @@
 -- Words of a line.
-use Rattle.std.specs.Prelude.{ℕ, ◌+◌, List, take, drop, position, ◌==◌}
+use Rattle.std.specs.Prelude.{ℕ, ◌+◌, List, take, drop, position, ◌==◌, None, Some}
 use Rattle.std.specs.Option.{option_map}
 use Rattle.std.specs.declared.option.Option.{Option}
 
 -- what stands before the first such byte, and what stands after it
 unfoldable pub parts_at : ℕ → List ℕ → Option (List ℕ × List ℕ)
 parts_at byte text = option_map (λ place. (take place text, drop (place + 1) text)) (position (λ x. x == byte) text)
+
+-- what follows from what was found
+infixl 10 ◌>>=◌
+abbrev pub ◌>>=◌ : {A B : Type 0} → Option A → (A → Option B) → Option B
+◌>>=◌ None next = None
+◌>>=◌ (Some a) next = next a

@@ -1,6 +1,6 @@
 //! A text of bytes.
 
-ghost use Rattle.std.specs.Prelude.{◌≡◌, ℕ, List, IfOk, IsTrue, ◌↔◌};
+ghost use Rattle.std.specs.Prelude.{◌≡◌, ℕ, List, IfOk, IsTrue, ◌↔◌, bytes_eq};
 
 use std::alloc::{AllocError, Global};
 use std::marker::Model;
@@ -44,7 +44,8 @@ impl Text {
 
     /// Whether these are the text's bytes.
     pub fn is(&self, bytes: &[u8]) -> bool
-        ensures { IsTrue result ↔ (self.now ≡ bytes.now) }
+        ensures same { IsTrue result ↔ (self.now ≡ bytes.now) }
+        ensures value { result ≡ bytes_eq self.now bytes.now }
     {
         self.bytes.as_slice() == bytes
     }

@@ -1,0 +1,126 @@
+//! The answer lines of a script.
+
+ghost use Rattle.std.specs.Prelude.{◌≡◌, ◌++◌, ◌∷◌, [], OnOk, codes, decimal};
+ghost use Rattle.cdni_base.specs.Rule.{number_or_dash, rule_status, rule_text};
+ghost use Rattle.http_node.specs.Answer.{numbered, endpoint_text, plan_text, answer_line};
+
+use cdni_base::{Endpoint, Rule};
+use itoa::Buffer;
+use std::alloc::AllocError;
+
+use crate::call::Reply;
+
+// adds the answer line of the reply
+#[tactic(auto, unfolding(crate::specs::Answer::answer_line))]
+pub(crate) fn put_answer(out: &mut Vec<u8>, reply: &Reply) -> Result<(), AllocError>
+    ensures { OnOk result (out.new.items ≡ out.old.items ++ answer_line reply.now) }
+{
+    match reply {
+        Reply::Denied { delivery, rule } => put_denied(out, *delivery, rule),
+        Reply::Miss { delivery, fetch, plan } => put_miss(out, *delivery, *fetch, plan.as_slice()),
+        Reply::Full { count } => put_numbered(out, b"full", *count),
+        Reply::NotOpen { number } => put_numbered(out, b"not-open", *number),
+        Reply::Due { refresh } => put_numbered(out, b"due", *refresh),
+        Reply::NotDue { next } => put_numbered(out, b"not-due", *next),
+        Reply::Installed { generation } => put_numbered(out, b"installed", *generation),
+        Reply::Older { refresh } => put_numbered(out, b"older", *refresh),
+        Reply::Failed => put(out, b"failed\n"),
+    }
+}
+
+fn put(out: &mut Vec<u8>, bytes: &[u8]) -> Result<(), AllocError>
+    ensures { OnOk result (out.new.items ≡ out.old.items ++ bytes.now) }
+{
+    out.extend_from_slice(bytes)
+}
+
+fn put_number(out: &mut Vec<u8>, number: u64) -> Result<(), AllocError>
+    ensures { OnOk result (out.new.items ≡ out.old.items ++ decimal number) }
+{
+    let mut digits = Buffer::new();
+    out.extend_from_slice(digits.format(number).as_bytes())
+}
+
+fn put_numbered(out: &mut Vec<u8>, word: &[u8], number: u64) -> Result<(), AllocError>
+    ensures { OnOk result (out.new.items ≡ out.old.items ++ numbered word.now number) }
+{
+    put(out, word)?;
+    put(out, b" ")?;
+    put_number(out, number)?;
+    put(out, b"\n")
+}
+
+fn put_denied(out: &mut Vec<u8>, delivery: u64, rule: &Rule) -> Result<(), AllocError>
+    ensures { OnOk result (out.new.items ≡ out.old.items ++ (codes "denied " ++ decimal delivery ++ 32 ∷ [] ++ decimal (rule_status rule.now) ++ 32 ∷ [] ++ rule_text rule.now ++ 10 ∷ [])) }
+{
+    put(out, b"denied ")?;
+    put_number(out, delivery)?;
+    put(out, b" ")?;
+    put_number(out, rule.status() as u64)?;
+    put(out, b" ")?;
+    put_rule(out, rule)?;
+    put(out, b"\n")
+}
+
+fn put_rule(out: &mut Vec<u8>, rule: &Rule) -> Result<(), AllocError>
+    ensures { OnOk result (out.new.items ≡ out.old.items ++ rule_text rule.now) }
+{
+    match rule {
+        Rule::Method => put(out, b"method"),
+        Rule::NoMetadata => put(out, b"no-metadata"),
+        Rule::MetadataInvalid { trigger } => put_word_number(out, b"metadata-invalid ", Some(*trigger)),
+        Rule::NoHost => put(out, b"no-host"),
+        Rule::Unenforceable { kind } => put_two(out, b"unenforceable ", kind.bytes()),
+        Rule::Location { rule } => put_word_number(out, b"location ", rule.map(|n| n as u64)),
+        Rule::Time { rule } => put_word_number(out, b"time ", rule.map(|n| n as u64)),
+        Rule::Protocol { rule } => put_word_number(out, b"protocol ", rule.map(|n| n as u64)),
+        Rule::NoSource => put(out, b"no-source"),
+    }
+}
+
+fn put_two(out: &mut Vec<u8>, first: &[u8], second: &[u8]) -> Result<(), AllocError>
+    ensures { OnOk result (out.new.items ≡ out.old.items ++ (first.now ++ second.now)) }
+{
+    put(out, first)?;
+    put(out, second)
+}
+
+fn put_word_number(out: &mut Vec<u8>, word: &[u8], number: Option<u64>) -> Result<(), AllocError>
+    ensures { OnOk result (out.new.items ≡ out.old.items ++ (word.now ++ number_or_dash number)) }
+{
+    put(out, word)?;
+    match number {
+        Some(number) => put_number(out, number),
+        None => put(out, b"-"),
+    }
+}
+
+fn put_miss(out: &mut Vec<u8>, delivery: u64, fetch: u64, plan: &[Endpoint]) -> Result<(), AllocError>
+    ensures { OnOk result (out.new.items ≡ out.old.items ++ (codes "miss " ++ decimal delivery ++ 32 ∷ [] ++ decimal fetch ++ plan_text plan.now ++ 10 ∷ [])) }
+{
+    put(out, b"miss ")?;
+    put_number(out, delivery)?;
+    put(out, b" ")?;
+    put_number(out, fetch)?;
+    put_plan(out, plan)?;
+    put(out, b"\n")
+}
+
+#[tactic(auto, unfolding(crate::specs::Answer::plan_text))]
+fn put_plan(out: &mut Vec<u8>, plan: &[Endpoint]) -> Result<(), AllocError>
+    ensures { OnOk result (out.new.items ≡ out.old.items ++ plan_text plan.now) }
+{
+    'endpoints: for endpoint in plan {
+        put_endpoint(out, endpoint)?;
+    }
+    Ok(())
+}
+
+fn put_endpoint(out: &mut Vec<u8>, endpoint: &Endpoint) -> Result<(), AllocError>
+    ensures { OnOk result (out.new.items ≡ out.old.items ++ endpoint_text endpoint.now) }
+{
+    put(out, b" ")?;
+    put(out, endpoint.host.0.bytes())?;
+    put(out, b":")?;
+    put_number(out, endpoint.port.unwrap_or(80) as u64)
+}

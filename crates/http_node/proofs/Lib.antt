@@ -1,2 +1,6 @@
 pub mod Effective
+pub mod Feeds
 pub mod Places
+pub mod Running
+pub mod Scripts
+pub mod Splits

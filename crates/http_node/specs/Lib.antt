@@ -1,3 +1,9 @@
+pub mod Ahead
 pub mod Answer
+pub mod Batch
 pub mod Evaluation
+pub mod Grammar
 pub mod History
+pub mod Lines
+pub mod Script
+pub mod Stepped

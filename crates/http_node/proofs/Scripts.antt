@@ -1,0 +1,107 @@
+-- Lines of a script, and the answers from a line on.
+use Rattle.std.proofs.Common.{◌≡◌, ℕ, zero, suc, ◌+◌, ◌-◌, ◌^◌, ◌<◌, ◌≤◌, ◌==◌, Bool, true, false, cond, not, ◌&&◌, List, [], ◌∷◌, ◌++◌, length, take, drop, refl, sym, ◌∙◌, ap, subst, arith, None, Some, nat_le, append_assoc, append-nil}
+use Rattle.std.specs.List.{list_all, fold}
+use Rattle.std.specs.Option.{option_map_or}
+use Rattle.std.specs.declared.option.Option.{Option}
+use Rattle.std.proofs.lemmas.Bool.{and_parts, and_left, and_right, cond-true, cond-false, not-true, lt-leb, leb-true}
+use Rattle.std.proofs.lemmas.List.Sums.{fold-append}
+use Rattle.cdni_base.specs.Limits.{Bounds}
+use Rattle.http_node.specs.Answer.{answer_line}
+use Rattle.http_node.specs.History.{Entry, History, World, after, nothing, world_of, reply_in, reply_to}
+use Rattle.http_node.specs.Lines.{Line, lines_of, on_first, NoFeed}
+use Rattle.http_node.specs.Script.{form_of, form_after, next_entry, fits, Answered, with_text, answers_from}
+use Rattle.http_node.specs.declared.replaying.Form.{Form}
+use Rattle.http_node.specs.declared.replaying.Form.TheVariants.{Opening, Document, Requests}
+
+-- ---- lines
+
+abbrev pub plain : ℕ → Bool
+plain byte = not (byte == 10)
+
+first_plain : (b : ℕ) (bytes : List ℕ) → NoFeed (b ∷ bytes) → (b == 10) ≡ false
+first_plain b bytes none = not-true (b == 10) (and_parts (plain b) (list_all plain bytes) none).0
+
+rest_plain : (b : ℕ) (bytes : List ℕ) → NoFeed (b ∷ bytes) → NoFeed bytes
+rest_plain b bytes none = (and_parts (plain b) (list_all plain bytes) none).1
+
+-- a byte that is no line feed stands in front of the first line
+lines_of-plain : (b : ℕ) (bytes : List ℕ) → (b == 10) ≡ false → lines_of (b ∷ bytes) ≡ on_first b (lines_of bytes)
+unfolding lines_of
+lines_of-plain b bytes is = cond-false (b == 10) (record { body = []; ended = true } ∷ lines_of bytes) (on_first b (lines_of bytes)) is
+
+pub lines_of-line : (body rest : List ℕ) → NoFeed body → lines_of (body ++ 10 ∷ rest) ≡ record { body = body; ended = true } ∷ lines_of rest
+unfolding lines_of
+lines_of-line [] rest none = refl
+lines_of-line (b ∷ body) rest none = lines_of-plain b (body ++ 10 ∷ rest) (first_plain b body none) ∙ ap (on_first b) (lines_of-line body rest (rest_plain b body none))
+
+pub lines_of-open : (b : ℕ) (body : List ℕ) → NoFeed (b ∷ body) → lines_of (b ∷ body) ≡ record { body = b ∷ body; ended = false } ∷ []
+unfolding lines_of
+lines_of-open b [] none = lines_of-plain b [] (first_plain b [] none)
+lines_of-open b (c ∷ body) none = lines_of-plain b (c ∷ body) (first_plain b (c ∷ body) none) ∙ ap (on_first b) (lines_of-open c body (rest_plain b (c ∷ body) none))
+
+-- the lines begin with one that begins with these bytes
+abbrev pub BeginsWith : List ℕ → List Line → Type 0
+BeginsWith bytes lines = (more : List ℕ) × (ended : Bool) × (others : List Line) × (lines ≡ record { body = bytes ++ more; ended = ended } ∷ others)
+
+first_begins : (b : ℕ) (lines : List Line) → BeginsWith (b ∷ []) (on_first b lines)
+first_begins b [] = ([], false, [], refl)
+first_begins b (line ∷ lines) = (line.body, line.ended, lines, refl)
+
+more_begins : (b : ℕ) (bytes : List ℕ) (lines : List Line) → BeginsWith bytes lines → BeginsWith (b ∷ bytes) (on_first b lines)
+more_begins b bytes lines begins = (begins.0, begins.1, begins.2, ap (on_first b) begins.3)
+
+pub lines_of-begins : (b : ℕ) (bytes rest : List ℕ) → NoFeed (b ∷ bytes) → BeginsWith (b ∷ bytes) (lines_of (b ∷ (bytes ++ rest)))
+lines_of-begins b [] rest none = subst (BeginsWith (b ∷ [])) (sym (lines_of-plain b rest (first_plain b [] none))) (first_begins b (lines_of rest))
+lines_of-begins b (c ∷ bytes) rest none =
+    subst (BeginsWith (b ∷ c ∷ bytes)) (sym (lines_of-plain b (c ∷ (bytes ++ rest)) (first_plain b (c ∷ bytes) none)))
+      (more_begins b (c ∷ bytes) (lines_of (c ∷ (bytes ++ rest))) (lines_of-begins c bytes rest (rest_plain b (c ∷ bytes) none)))
+
+-- ---- lines that are no script lines
+
+pub next_entry-open : (at : ℕ) (form : Form) (body : List ℕ) → next_entry at form (record { body = body; ended = false }) ≡ None
+unfolding next_entry
+next_entry-open at form body = refl
+
+pub next_entry-long : (at : ℕ) (form : Form) (body : List ℕ) (ended : Bool) → 40000000 ≤ length body → next_entry at form (record { body = body; ended = ended }) ≡ None
+unfolding next_entry
+next_entry-long at form body ended long = cond-false _ _ _ (and_right ended _ (and_left _ _ (lt-leb (length body + 1) 40000000 (omega arith))))
+
+in_time : (t : Bool) (o : Option Entry) (e : Entry) → cond t o None ≡ Some e → t ≡ true
+in_time true o e is = refl
+in_time false o e is = absurd (cc)
+
+pub next_entry-fits : (at : ℕ) (form : Form) (body : List ℕ) (e : Entry) → next_entry at form (record { body = body; ended = true }) ≡ Some e → at + (length body + 1) ≤ 2 ^ 40
+unfolding next_entry
+next_entry-fits at form body e is =
+    let both = in_time (fits at (length body + 1)) _ e is in
+    leb-true (at + (length body + 1)) (2 ^ 40) (and_parts (nat_le (length body + 1) 40000000) (nat_le (at + (length body + 1)) (2 ^ 40)) both).1
+
+-- ---- histories
+
+pub world_of_push : (limits : Bounds) (h : History) (e : Entry) → world_of limits (h ++ e ∷ []) ≡ after (world_of limits h) e
+unfolding world_of
+world_of_push limits h e = fold-append after (nothing limits) h (e ∷ [])
+
+pub form_of_push : (h : History) (e : Entry) → form_of (h ++ e ∷ []) ≡ form_after (form_of h) e.0
+form_of_push [] e = refl
+form_of_push (first ∷ []) e = refl
+form_of_push (first ∷ second ∷ h) e = refl
+
+-- ---- answers
+
+module _ (limits : Bounds) (number at : ℕ) (h : History) (line : Line) (lines : List Line) where
+  pub answers_stop : next_entry at (form_of h) line ≡ None → answers_from limits number at h (line ∷ lines) ≡ record { text = []; stops = Some (number, at) }
+  unfolding answers_from
+  answers_stop none = rw none refl
+
+  pub answers_next : (e : Entry) → next_entry at (form_of h) line ≡ Some e
+      → answers_from limits number at h (line ∷ lines) ≡ with_text (answer_line (reply_to limits h e)) (answers_from limits (number + 1) (at + (length line.body + 1)) (h ++ e ∷ []) lines)
+  unfolding answers_from
+  answers_next e some = rw some refl
+
+pub answers_none : (limits : Bounds) (number at : ℕ) (h : History) → answers_from limits number at h (lines_of []) ≡ record { text = []; stops = None }
+unfolding answers_from lines_of
+answers_none limits number at h = refl
+
+pub with_text-trans : (one two : List ℕ) (rest : Answered) → with_text one (with_text two rest) ≡ with_text (one ++ two) rest
+with_text-trans one two rest = let same : (text : List ℕ) → Answered = λ text. record { text = text; stops = rest.stops } in ap same (sym (append_assoc one two rest.text))

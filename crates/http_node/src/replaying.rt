@@ -1,0 +1,153 @@
+//! The answers of a script, line by line.
+
+ghost use Rattle.std.specs.Prelude.{◌≡◌, ◌+◌, ◌≤◌};
+ghost use Rattle.edge_base.specs.Causes.{Rose};
+ghost use Rattle.http_node.specs.History.{after, reply_in};
+ghost use Rattle.http_node.specs.Script.{is_next, form_after, fits};
+ghost use Rattle.http_node.specs.Batch.{Ends};
+ghost use Rattle.http_node.specs.Stepped.{StepsTo};
+
+use cdni_base::Limits;
+use edge_base::{Sink, Source, write_counted};
+use std::alloc::Global;
+
+use crate::ahead::{Ahead, LineRead};
+use crate::answer::put_answer;
+use crate::call::Call;
+use crate::script::read_entry;
+use crate::step::Core;
+
+/// What the next line of a script must be.
+#[derive(Clone, Copy, Debug, PartialEq, Eq)]
+pub enum Form {
+    /// A refresh.
+    Opening,
+    /// The metadata of the first refresh, by this pass.
+    Document(u32),
+    /// A request.
+    Requests,
+}
+
+/// How a replay ended.
+#[derive(Clone, Copy, Debug, PartialEq, Eq)]
+pub enum ReplayEnd {
+    /// The input was read to its end and all answers were written.
+    Done,
+    /// This line, counted from 1, which begins at this byte, counted from 0, is no script line;
+    /// the answers before it were written.
+    NotALine { line: u64, at: u64 },
+    /// The input failed.
+    ReadFault,
+    /// The output failed.
+    WriteFault,
+    /// Want of memory.
+    Memory,
+}
+
+/// What a line of the script gave.
+#[derive(Clone, Copy, Debug, PartialEq, Eq)]
+pub enum Stepped {
+    /// An answer, to the call of this pass.
+    Answered(u32),
+    /// It is no script line.
+    NotALine,
+    /// Want of memory.
+    Memory,
+}
+
+// writes the answers of the script that the input gives
+pub(crate) fn replay<S: Source, K: Sink>(alloc: Global, input: &mut S, output: &mut K) -> ReplayEnd
+    ensures ends { Ends (S.left input.old) (S.left input.new) (K.held output.old) (K.held output.new) result }
+    ensures read_later { S.faults input.old ≤ S.faults input.new }
+    ensures read { result ≡ ReplayEnd.ReadFault → Rose (S.faults input.old) (S.faults input.new) }
+    ensures write_later { K.faults output.old ≤ K.faults output.new }
+    ensures write { result ≡ ReplayEnd.WriteFault → Rose (K.faults output.old) (K.faults output.new) }
+{
+    let Ok(mut ahead) = Ahead::new(alloc) else {
+        return ReplayEnd::Memory;
+    };
+    let mut core = Core::new(alloc, Limits::standard());
+    let mut form = Form::Opening;
+    let mut line = Vec::new(alloc);
+    let mut answer = Vec::new(alloc);
+    let mut number: u64 = 1;
+    let mut at: u64 = 0;
+    'lines: loop {
+        match ahead.next_line(input, &mut line) {
+            LineRead::Line => {}
+            LineRead::End => {
+                if line.is_empty() {
+                    return ReplayEnd::Done;
+                }
+                return ReplayEnd::NotALine { line: number, at };
+            }
+            LineRead::TooLong => return ReplayEnd::NotALine { line: number, at },
+            LineRead::Failed => return ReplayEnd::ReadFault,
+            LineRead::Memory => return ReplayEnd::Memory,
+        }
+        match answer_one(alloc, &mut core, form, at, &line, &mut answer) {
+            Stepped::Answered(pass) => form = next_form(form, pass),
+            Stepped::NotALine => return ReplayEnd::NotALine { line: number, at },
+            Stepped::Memory => return ReplayEnd::Memory,
+        }
+        if write_counted(output, &answer).fault {
+            return ReplayEnd::WriteFault;
+        }
+        number += 1;
+        at += line.len() as u64 + 1;
+    }
+}
+
+fn next_form(form: Form, pass: u32) -> Form
+    ensures { result ≡ form_after form pass }
+{
+    match form {
+        Form::Opening => Form::Document(pass),
+        Form::Document(_) => Form::Requests,
+        Form::Requests => Form::Requests,
+    }
+}
+
+fn may_follow(form: Form, pass: u32, call: &Call) -> bool
+    ensures { result ≡ is_next form pass call.now }
+{
+    match (form, call) {
+        (Form::Opening, Call::RefreshBegin { moment: _ }) => true,
+        (Form::Document(opener), Call::RefreshEnd { refresh, index: _, moment: _ }) => opener == pass && *refresh == 1,
+        (Form::Requests, Call::Admit { asked: _, moment: _ }) => true,
+        _ => false,
+    }
+}
+
+// answers the line that begins at this place of the script; the answer takes the place of what was there
+#[tactic(auto, unfolding(crate::specs::Script::next_entry))]
+fn answer_one(alloc: Global, core: &mut Core, form: Form, at: u64, line: &[u8], answer: &mut Vec<u8>) -> Stepped
+    ensures { StepsTo core.old core.new form at line.now answer.new.items result }
+{
+    if !is_in_limits(at, line.len()) {
+        return Stepped::NotALine;
+    }
+    let (pass, call) = match read_entry(alloc, line) {
+        Ok(Some(entry)) => entry,
+        Ok(None) => return Stepped::NotALine,
+        Err(_) => return Stepped::Memory,
+    };
+    if !may_follow(form, pass, &call) {
+        return Stepped::NotALine;
+    }
+    let Ok(reply) = core.call(alloc, pass, call) else {
+        return Stepped::Memory;
+    };
+    answer.clear();
+    match put_answer(answer, &reply) {
+        Ok(()) => Stepped::Answered(pass),
+        Err(_) => Stepped::Memory,
+    }
+}
+
+// whether a line of this length, its line feed not counted, ends within the limits
+fn is_in_limits(at: u64, length: usize) -> bool
+    ensures { result ≡ fits at (length + 1) }
+{
+    length < 40000000 && at <= 1099511627776 && at + length as u64 + 1 <= 1099511627776
+}

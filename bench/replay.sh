@@ -1,0 +1,29 @@
+#!/usr/bin/env bash
+# Instructions per `get` line of `cdnid replay`, counted under callgrind: a refresh, a document of one host, and 2,000
+# and 20,000 requests. It prints the instructions of each run, and the slope between the two, which is the cost of a line.
+# Usage: bench/replay.sh   (needs valgrind; builds the program by `rt run` where it is not built)
+set -eu
+cd "$(dirname "$0")/.."
+program=crates/cdnid/out/cdnid
+[[ -x $program ]] || (cd crates/cdnid && rt run -- replay <stdin >/dev/null)
+room=$(mktemp -d)
+trap 'rm -rf "$room"' EXIT
+
+script() {
+  head -n 2 crates/cdnid/stdin
+  local line; line=$(sed -n 3p crates/cdnid/stdin)
+  for ((i = 0; i < $1; i++)); do printf '%s/%06d.ts\n' "$line" "$i"; done
+}
+
+count() {
+  script "$1" >"$room/$1.script"
+  valgrind --tool=callgrind --callgrind-out-file="$room/$1.out" "$program" replay <"$room/$1.script" >"$room/$1.answers" 2>"$room/$1.notes"
+  [[ $(wc -l <"$room/$1.answers") == $(($1 + 2)) ]] || { echo "a line has no answer" >&2; exit 1; }
+  sed -n 's/^summary: //p' "$room/$1.out"
+}
+
+few=$(count 2000)
+many=$(count 20000)
+echo "2000 lines: $few instructions, $((few / 2000)) a line"
+echo "20000 lines: $many instructions, $((many / 20000)) a line"
+echo "slope: $(((many - few) / 18000)) instructions a line"

@@ -1,0 +1,174 @@
+//! Each call of the lower crates once, where there is memory, against values from outside.
+
+use std::alloc::Global;
+use std::test::Fail;
+
+use cdni_base::{Endpoint, EndpointFault, Limits, Rule};
+use json_read::{FieldCause, JsonFault, JsonPath, ParseFault, flag_at, list_at, maybe, need, parse, text_at, whole_at};
+use listing::{Listing, Text, cut_at, read_decimal, read_digits};
+use metadata_objects::{Held, HostIndex, MetaFault};
+
+#[test]
+fn texts_and_lists(rt: HostRuntime) -> Result<(), Fail> {
+    let alloc = rt.alloc();
+    let text = Text::of(alloc, b"abc")?;
+    assert!(rt; text.is(b"abc"));
+    assert!(rt; !text.is(b"abd"));
+    assert_eq!(rt; Text::from_vec(vec![in alloc; 1, 2]?).bytes(), [1, 2].as_slice());
+    let mut list = Listing::new(alloc);
+    list.push(text.clone()?)?;
+    list.push(Text::of(alloc, b"d")?)?;
+    assert_eq!(rt; list.len(), 2);
+    assert_eq!(rt; list.at(1).bytes(), b"d".as_slice());
+    assert_eq!(rt; list.as_slice().len(), 2);
+    assert!(rt; list.pop().expect(&rt, "an item").is(b"d"));
+    assert!(rt; list.pop().expect(&rt, "an item").is(b"abc"));
+    assert!(rt; list.pop().is_none());
+    Ok(())
+}
+
+#[test]
+fn numbers_and_words(rt: HostRuntime) {
+    for (text, number) in [
+        ("0", Some(0)),
+        ("65535", Some(65535)),
+        ("18446744073709551615", Some(18446744073709551615)),
+        ("18446744073709551616", None),
+        ("", None),
+        ("01", None),
+        ("1a", None),
+        ("-1", None),
+    ] {
+        assert_eq!(rt; read_decimal(text.as_bytes()), number, "{text}");
+    }
+    assert_eq!(rt; read_digits(b"00080"), Some(80));
+    assert_eq!(rt; read_digits(b""), Some(0));
+    assert_eq!(rt; cut_at(b' ', b"a b c"), Some((b"a".as_slice(), b"b c".as_slice())));
+    assert_eq!(rt; cut_at(b' ', b"abc"), None);
+}
+
+#[test]
+fn endpoints(rt: HostRuntime) -> Result<(), Fail> {
+    let alloc = rt.alloc();
+    for (text, host, port) in [
+        ("O.Example", "o.example", None),
+        ("o.example:", "o.example", None),
+        ("o.example:00080", "o.example", Some(80)),
+        ("a_b-c:65535", "a_b-c", Some(65535)),
+        ("[2001:DB8::1]:443", "[2001:db8::1]", Some(443)),
+        ("[.]", "[.]", None),
+    ] {
+        let Ok(endpoint) = Endpoint::read(alloc, text.as_bytes()) else {
+            return Err(Fail::from("an endpoint"));
+        };
+        assert!(rt; endpoint.host.0.is(host.as_bytes()), "{text}");
+        assert_eq!(rt; endpoint.port, port, "{text}");
+    }
+    for (text, fault) in [
+        ("", EndpointFault::BadHost { at: 0 }),
+        ("[]", EndpointFault::BadHost { at: 1 }),
+        ("[12", EndpointFault::BadHost { at: 3 }),
+        ("o/", EndpointFault::BadPort { at: 1 }),
+        ("o:0", EndpointFault::BadPort { at: 3 }),
+        ("o:00000", EndpointFault::BadPort { at: 6 }),
+        ("o:65536", EndpointFault::BadPort { at: 6 }),
+        ("o:000080", EndpointFault::BadPort { at: 7 }),
+    ] {
+        assert_eq!(rt; Endpoint::read(alloc, text.as_bytes()).err(), Some(fault), "{text}");
+    }
+    Ok(())
+}
+
+#[test]
+fn rules_and_limits(rt: HostRuntime) -> Result<(), Fail> {
+    assert_eq!(rt; Rule::Method.status(), 405);
+    assert_eq!(rt; Rule::Location { rule: Some(1) }.status(), 403);
+    assert_eq!(rt; Rule::NoHost.status(), 404);
+    assert_eq!(rt; Rule::NoSource.status(), 503);
+    assert_eq!(rt; Limits::standard().period, 60000);
+    Ok(())
+}
+
+// the place and the cause of a field's fault
+fn fault_of<T: Drop>(alloc: Global, read: Result<T, JsonFault>) -> Result<(Vec<u8>, FieldCause), Fail> {
+    match read {
+        Err(JsonFault::Field(fault)) => Ok((fault.path.bytes().to_vec(alloc)?, fault.cause)),
+        _ => Err(Fail::from("a field's fault")),
+    }
+}
+
+#[test]
+fn fields_of_json(rt: HostRuntime) -> Result<(), Fail> {
+    let alloc = rt.alloc();
+    assert_eq!(rt; parse(alloc, b"{").err(), Some(ParseFault::NotJson));
+    assert_eq!(rt; parse(alloc, b"\"\\ud800\"").err(), Some(ParseFault::NotJson));
+    let Ok(value) = parse(alloc, b"{\"a\":[true,\"x\",7]}") else {
+        return Err(Fail::from("JSON"));
+    };
+    let root = JsonPath::root(alloc);
+    let Ok(list) = need(alloc, &value, &root, "a") else {
+        return Err(Fail::from("a member"));
+    };
+    let path = root.child(alloc, "a")?;
+    let Ok(items) = list_at(alloc, list, &path) else {
+        return Err(Fail::from("a list"));
+    };
+    assert_eq!(rt; items.len(), 3);
+    let third = path.item(alloc, 2)?;
+    assert_eq!(rt; third.bytes(), b"/a/2".as_slice());
+    assert!(rt; matches!(flag_at(alloc, &items[0], &path.item(alloc, 0)?), Ok(true)));
+    assert!(rt; matches!(text_at(alloc, &items[1], &path), Ok(text) if text.as_str() == "x"));
+    assert!(rt; matches!(whole_at(alloc, &items[2], &third, 7), Ok(7)));
+    assert!(rt; matches!(maybe(alloc, &value, &root, "b"), Ok(None)));
+    let (place, cause) = fault_of(alloc, whole_at(alloc, &items[2], &third, 6))?;
+    assert_eq!(rt; (place.as_slice(), cause), (b"/a/2".as_slice(), FieldCause::OutOfRange));
+    let (place, cause) = fault_of(alloc, need(alloc, &value, &root, "b"))?;
+    assert_eq!(rt; (place.as_slice(), cause), (b"/b".as_slice(), FieldCause::Missing));
+    let (place, cause) = fault_of(alloc, flag_at(alloc, list, &path.copy(alloc)?))?;
+    assert_eq!(rt; (place.as_slice(), cause), (b"/a".as_slice(), FieldCause::WrongKind));
+    Ok(())
+}
+
+#[test]
+fn host_indexes(rt: HostRuntime) -> Result<(), Fail> {
+    let alloc = rt.alloc();
+    let text = b"{\"hosts\":[{\"host\":\"V.Example:8080\",\"host-metadata\":{\"metadata\":[{\"generic-metadata-type\":\"MI.X\",\"generic-metadata-value\":null,\"safe-to-redistribute\":false}]}}]}";
+    let Ok(index) = HostIndex::read(alloc, text) else {
+        return Err(Fail::from("a HostIndex"));
+    };
+    assert_eq!(rt; index.hosts.len(), 1);
+    let host = index.hosts.at(0);
+    assert!(rt; host.host.host.0.is(b"v.example"));
+    assert_eq!(rt; host.host.port, Some(8080));
+    assert_eq!(rt; host.level.metadata.len(), 1);
+    let object = host.level.metadata.at(0);
+    assert!(rt; object.kind.is(b"mi.x"));
+    assert!(rt; object.mandatory && !object.redistribute);
+    assert!(rt; matches!(&object.held, Held::NotUnderstood));
+    Ok(())
+}
+
+#[test]
+fn host_index_faults(rt: HostRuntime) -> Result<(), Fail> {
+    let alloc = rt.alloc();
+    for (text, place, cause) in [
+        ("[]", "", FieldCause::WrongKind),
+        ("{}", "/hosts", FieldCause::Missing),
+        ("{\"hosts\":[{\"host-metadata\":{}}]}", "/hosts/0/host", FieldCause::Missing),
+        ("{\"hosts\":[7]}", "/hosts/0", FieldCause::WrongKind),
+        ("{\"hosts\":[{\"host\":\"a b\"}]}", "/hosts/0/host", FieldCause::OutOfRange),
+        ("{\"hosts\":[{\"host\":\"a\",\"host-metadata\":{\"paths\":null,\"metadata\":[{}]}}]}", "/hosts/0/host-metadata/metadata/0/generic-metadata-type", FieldCause::Missing),
+        ("{\"hosts\":[{\"host\":\"a\",\"host-metadata\":{\"paths\":null}}]}", "/hosts/0/host-metadata/paths", FieldCause::OutOfRange),
+    ] {
+        match HostIndex::read(alloc, text.as_bytes()) {
+            Err(MetaFault::Field(fault)) => {
+                assert_eq!(rt; fault.path.bytes(), place.as_bytes(), "{text}");
+                assert_eq!(rt; fault.cause, cause, "{text}");
+            }
+            _ => return Err(Fail::from("a field's fault")),
+        }
+    }
+    assert!(rt; matches!(HostIndex::read(alloc, b"{"), Err(MetaFault::NotJson)));
+    assert!(rt; matches!(HostIndex::read(alloc, b"{\"hosts\":[{\"href\":\"/x\"}]}"), Err(MetaFault::Link { path }) if path.bytes() == b"/hosts/0".as_slice()));
+    Ok(())
+}

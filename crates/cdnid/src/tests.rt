@@ -1,0 +1,123 @@
+//! What no clause says: worked scripts, the real streams, and that calls succeed where there is memory.
+
+use std::alloc::Global;
+use std::fs;
+use std::test::Fail;
+
+use edge_base::{MemorySink, MemorySource, Put, Sink, Source, Status, SteadySink, SteadySource, StdSink, StdSource, Took, write_counted};
+use http_node::batch_main;
+
+use crate::scripts::SCRIPTS;
+
+// the status of `replay` on the script, and what it wrote, by reads and writes of these portions
+fn replayed(alloc: Global, script: &str, gives: &[u64], takes: &[u64]) -> Result<(Status, Vec<u8>), Fail> {
+    let words = vec![in alloc; String::from_str(alloc, "replay")?]?;
+    let mut input = MemorySource::new(alloc, script.as_bytes(), gives)?;
+    let mut output = MemorySink::new(alloc, takes)?;
+    let mut notes = MemorySink::new(alloc, &[0])?;
+    let status = batch_main(alloc, words.as_slice(), &mut input, &mut output, &mut notes);
+    Ok((status, output.held().to_vec(alloc)?))
+}
+
+#[test]
+fn scripts_have_their_answers(rt: HostRuntime) -> Result<(), Fail> {
+    for (name, script, answers, status) in SCRIPTS {
+        let (ended, written) = replayed(rt.alloc(), script, &[], &[])?;
+        assert_eq!(rt; ended.number(), status, "{name}");
+        assert_eq!(rt; written.as_slice(), answers.as_bytes(), "{name}");
+    }
+    Ok(())
+}
+
+// a refresh, a document of one host, and so many requests
+fn long_script(alloc: Global, requests: u32) -> Result<String, Fail> {
+    let mut script = String::from_str(alloc, "0 1000 refresh\n0 1000 meta 1 http://up.example/i ")?;
+    script.push_str("{\"hosts\":[{\"host\":\"v.example\",\"host-metadata\":{}}]}\n")?;
+    for _ in 0..requests {
+        script.push_str("0 2000 get GET http/1.1 192.0.2.7 as64496 us http://v.example/a\n")?;
+    }
+    Ok(script)
+}
+
+#[test]
+fn open_deliveries_are_limited(rt: HostRuntime) -> Result<(), Fail> {
+    let script = long_script(rt.alloc(), 20001)?;
+    let (status, written) = replayed(rt.alloc(), script.as_str(), &[], &[])?;
+    assert_eq!(rt; status, Status::Done);
+    assert!(rt; written.as_slice().ends_with(b"\ndenied 19999 503 no-source\ndenied 20000 503 no-source\nfull 20000\n"));
+    Ok(())
+}
+
+#[test]
+fn any_cut_gives_the_same(rt: HostRuntime) -> Result<(), Fail> {
+    let ones = [1u64; 400];
+    let uneven = [7u64, 1, 100, 3, 2, 90, 1, 1, 5, 30];
+    for (name, script, answers, status) in SCRIPTS {
+        for portions in [ones.as_slice(), uneven.as_slice()] {
+            let (ended, written) = replayed(rt.alloc(), script, portions, portions)?;
+            assert_eq!(rt; ended.number(), status, "{name}");
+            assert_eq!(rt; written.as_slice(), answers.as_bytes(), "{name}");
+        }
+    }
+    Ok(())
+}
+
+#[test]
+fn faults_end_the_replay(rt: HostRuntime) -> Result<(), Fail> {
+    let (_, script, _, _) = SCRIPTS[2];
+    let cases = [
+        ([0u64; 1].as_slice(), [].as_slice(), Status::ReadFault, b"".as_slice()),
+        ([20u64, 0].as_slice(), [].as_slice(), Status::ReadFault, b"due 1\n".as_slice()),
+        ([].as_slice(), [0u64; 1].as_slice(), Status::WriteFault, b"".as_slice()),
+        ([].as_slice(), [6u64, 4, 0].as_slice(), Status::WriteFault, b"due 1\ninst".as_slice()),
+    ];
+    for (gives, takes, status, held) in cases {
+        let (ended, written) = replayed(rt.alloc(), script, gives, takes)?;
+        assert_eq!(rt; ended, status);
+        assert_eq!(rt; written.as_slice(), held);
+    }
+    Ok(())
+}
+
+#[test]
+fn other_words_are_no_command(rt: HostRuntime) -> Result<(), Fail> {
+    let alloc = rt.alloc();
+    for words in [[].as_slice(), ["Replay"].as_slice(), ["replay", "replay"].as_slice(), ["--help"].as_slice(), [""].as_slice()] {
+        let mut given = Vec::new(alloc);
+        for word in words {
+            given.push(String::from_str(alloc, word)?)?;
+        }
+        let mut input = SteadySource::new(alloc, b"0 1000 refresh\n")?;
+        let mut output = SteadySink::new(alloc)?;
+        let mut notes = SteadySink::new(alloc)?;
+        let status = batch_main(alloc, given.as_slice(), &mut input, &mut output, &mut notes);
+        assert_eq!(rt; status, Status::Usage);
+        assert_eq!(rt; output.count, 0);
+        assert_eq!(rt; notes.count, 0);
+    }
+    Ok(())
+}
+
+#[test]
+fn real_streams_give_and_take(rt: HostRuntime) -> Result<(), Fail> {
+    let mut sink = StdSink::new(fs::create(&rt, "stream")?);
+    let written = write_counted(&mut sink, b"due 1\ninstalled 1\n");
+    assert_eq!(rt; written.taken, 18);
+    assert!(rt; !written.fault);
+    assert_eq!(rt; sink.faults(), 0);
+    let mut source = StdSource::new(fs::open(&rt, "stream")?);
+    let mut buffer = [0u8; 32];
+    assert_eq!(rt; source.read(&mut buffer), Took::Some(18));
+    assert_eq!(rt; &buffer[..18], b"due 1\ninstalled 1\n".as_slice());
+    assert_eq!(rt; source.read(&mut buffer), Took::End);
+    assert_eq!(rt; source.faults(), 0);
+    Ok(())
+}
+
+#[test]
+fn real_faults_are_counted(rt: HostRuntime) -> Result<(), Fail> {
+    let mut sink = StdSink::new(fs::open(&rt, "/dev/null")?);
+    assert_eq!(rt; sink.write(b"x"), Put::Failed);
+    assert_eq!(rt; sink.faults(), 1);
+    Ok(())
+}

@@ -1,5 +1,5 @@
 -- The rules that forbid a delivery: with which status and in which words.
-use Rattle.std.specs.Prelude.{ℕ, List, [], ◌∷◌, ◌++◌, codes, decimal, None, Some}
+use Rattle.std.specs.Prelude.{ℕ, List, ◌++◌, codes, decimal, None, Some}
 use Rattle.std.specs.declared.option.Option.{Option}
 use Rattle.cdni_base.specs.declared.rule.Rule.{Rule}
 use Rattle.cdni_base.specs.declared.rule.Rule.TheVariants as rule

@@ -5,9 +5,8 @@ ghost use Rattle.std.specs.List.{prefix_len};
 ghost use Rattle.std.specs.Str.{str_to_ascii_lowercase};
 ghost use Rattle.cdni_base.specs.Endpoint.{is_name_byte, is_address_byte, host_length, host_front, port_of, port_number, port_front, ReadsEndpoint};
 
-use std::alloc::{AllocError, Global};
-
 use listing::{Listing, Text, read_digits};
+use std::alloc::{AllocError, Global};
 
 /// A host, in lower case: a name or address of 1 to 255 bytes, or an address in brackets.
 #[derive(Clone, Drop)]
@@ -37,6 +36,7 @@ pub enum EndpointFault {
 impl From<AllocError> for EndpointFault {
     ghost use Rattle.std.specs.Prelude.{◌≡◌};
     ghost use Rattle.cdni_base.specs.declared.endpoint.EndpointFault.TheVariants as endpoint_fault;
+
     ghost from_gives = { λ _ fault. fault ≡ endpoint_fault.Memory };
 
     fn from(_error: AllocError) -> EndpointFault {
@@ -56,10 +56,15 @@ impl Endpoint {
     {
         let length = host_length(text);
         if length == 0 {
-            return Err(EndpointFault::BadHost { at: host_front(text) });
+            return Err(EndpointFault::BadHost {
+                at: host_front(text),
+            });
         }
         match read_port(&text[length..]) {
-            Ok(port) => Ok(Endpoint { host: HostName(lowered(alloc, &text[..length])?), port }),
+            Ok(port) => Ok(Endpoint {
+                host: HostName(lowered(alloc, &text[..length])?),
+                port,
+            }),
             Err(at) => Err(EndpointFault::BadPort { at: length + at }),
         }
     }
@@ -69,7 +74,12 @@ impl Endpoint {
 fn lowered(alloc: Global, bytes: &[u8]) -> Result<Text, AllocError>
     ensures { IfOk result (λ text. text ≡ str_to_ascii_lowercase bytes.now) }
 {
-    Ok(Text::from_vec(bytes.iter().map(|byte| byte.to_ascii_lowercase()).collect(alloc)?))
+    Ok(Text::from_vec(
+        bytes
+            .iter()
+            .map(|byte| byte.to_ascii_lowercase())
+            .collect(alloc)?,
+    ))
 }
 
 // the length of the longest host with which the text begins, 0 where there is none
@@ -93,7 +103,11 @@ fn host_length(text: &[u8]) -> usize
 fn host_front(text: &[u8]) -> usize
     ensures { result ≡ host_front text.now }
 {
-    if begins_with_bracket(text) { (address_length(&text[1..]) + 1).min(254) } else { 0 }
+    if begins_with_bracket(text) {
+        (address_length(&text[1..]) + 1).min(254)
+    } else {
+        0
+    }
 }
 
 fn begins_with_bracket(text: &[u8]) -> bool
@@ -122,7 +136,9 @@ fn address_length(text: &[u8]) -> usize
     ensures length { result ≡ prefix_len is_address_byte text.now }
     ensures within { result ≤ length text.now }
 {
-    text.iter().take_while(|byte| is_address_byte(**byte)).count()
+    text.iter()
+        .take_while(|byte| is_address_byte(**byte))
+        .count()
 }
 
 fn is_address_byte(byte: u8) -> bool

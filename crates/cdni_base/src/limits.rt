@@ -24,9 +24,13 @@ pub struct Limits {
 
 impl Model for Limits {
     ghost use Rattle.cdni_base.specs.Limits.{Bounds, AreInRange};
+
     ghost Value = { Bounds };
+
     ghost view = { λ l. record { cache = l.cache; rows = l.rows; triggers = l.triggers; files = l.files; period = l.period; opened = l.opened } };
+
     ghost invariant = { λ l. AreInRange (record { cache = l.cache; rows = l.rows; triggers = l.triggers; files = l.files; period = l.period; opened = l.opened }) };
+
     ghost inverse = { λ b. record { cache = b.cache; rows = b.rows; triggers = b.triggers; files = b.files; period = b.period; opened = b.opened } };
 }
 
@@ -35,6 +39,13 @@ impl Limits {
     pub fn standard() -> Limits
         ensures { result ≡ default_limits }
     {
-        Limits { cache: 268435456, rows: 20000, triggers: 1000, files: 16, period: 60000, opened: 4611686018427387904 }
+        Limits {
+            cache: 268435456,
+            rows: 20000,
+            triggers: 1000,
+            files: 16,
+            period: 60000,
+            opened: 4611686018427387904,
+        }
     }
 }

@@ -38,7 +38,10 @@ impl Rule {
             Rule::Method => 405,
             Rule::NoHost => 404,
             Rule::NoMetadata | Rule::MetadataInvalid { trigger: _ } | Rule::NoSource => 503,
-            Rule::Unenforceable { kind: _ } | Rule::Location { rule: _ } | Rule::Time { rule: _ } | Rule::Protocol { rule: _ } => 403,
+            Rule::Unenforceable { kind: _ }
+            | Rule::Location { rule: _ }
+            | Rule::Time { rule: _ }
+            | Rule::Protocol { rule: _ } => 403,
         }
     }
 }

@@ -1,8 +1,7 @@
 //! What a request asks for.
 
-use listing::{Listing, Text};
-
 use crate::endpoint::{EndpointList, HostName};
+use listing::{Listing, Text};
 
 /// The delivery protocol of a request, as RFC 8006, section 7.2, names it.
 #[derive(Clone, Copy, Debug, PartialEq, Eq)]

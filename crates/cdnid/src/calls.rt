@@ -1,12 +1,14 @@
 //! Each call of the lower crates once, where there is memory, against values from outside.
 
-use std::alloc::Global;
-use std::test::Fail;
-
 use cdni_base::{Endpoint, EndpointFault, Limits, Rule};
-use json_read::{FieldCause, JsonFault, JsonPath, ParseFault, flag_at, list_at, maybe, need, parse, text_at, whole_at};
+use json_read::{
+    FieldCause, JsonFault, JsonPath, ParseFault, flag_at, list_at, maybe, need, parse, text_at,
+    whole_at,
+};
 use listing::{Listing, Text, cut_at, read_decimal, read_digits};
 use metadata_objects::{Held, HostIndex, MetaFault};
+use std::alloc::Global;
+use std::test::Fail;
 
 #[test]
 fn texts_and_lists(rt: HostRuntime) -> Result<(), Fail> {
@@ -14,7 +16,10 @@ fn texts_and_lists(rt: HostRuntime) -> Result<(), Fail> {
     let text = Text::of(alloc, b"abc")?;
     assert!(rt; text.is(b"abc"));
     assert!(rt; !text.is(b"abd"));
-    assert_eq!(rt; Text::from_vec(vec![in alloc; 1, 2]?).bytes(), [1, 2].as_slice());
+    assert_eq!(rt;
+        Text::from_vec(vec![in alloc; 1, 2]?).bytes(),
+        [1, 2].as_slice()
+    );
     let mut list = Listing::new(alloc);
     list.push(text.clone()?)?;
     list.push(Text::of(alloc, b"d")?)?;
@@ -43,7 +48,10 @@ fn numbers_and_words(rt: HostRuntime) {
     }
     assert_eq!(rt; read_digits(b"00080"), Some(80));
     assert_eq!(rt; read_digits(b""), Some(0));
-    assert_eq!(rt; cut_at(b' ', b"a b c"), Some((b"a".as_slice(), b"b c".as_slice())));
+    assert_eq!(rt;
+        cut_at(b' ', b"a b c"),
+        Some((b"a".as_slice(), b"b c".as_slice()))
+    );
     assert_eq!(rt; cut_at(b' ', b"abc"), None);
 }
 
@@ -74,7 +82,11 @@ fn endpoints(rt: HostRuntime) -> Result<(), Fail> {
         ("o:65536", EndpointFault::BadPort { at: 6 }),
         ("o:000080", EndpointFault::BadPort { at: 7 }),
     ] {
-        assert_eq!(rt; Endpoint::read(alloc, text.as_bytes()).err(), Some(fault), "{text}");
+        assert_eq!(rt;
+            Endpoint::read(alloc, text.as_bytes()).err(),
+            Some(fault),
+            "{text}"
+        );
     }
     Ok(())
 }
@@ -90,7 +102,10 @@ fn rules_and_limits(rt: HostRuntime) -> Result<(), Fail> {
 }
 
 // the place and the cause of a field's fault
-fn fault_of<T: Drop>(alloc: Global, read: Result<T, JsonFault>) -> Result<(Vec<u8>, FieldCause), Fail> {
+fn fault_of<T: Drop>(
+    alloc: Global,
+    read: Result<T, JsonFault>,
+) -> Result<(Vec<u8>, FieldCause), Fail> {
     match read {
         Err(JsonFault::Field(fault)) => Ok((fault.path.bytes().to_vec(alloc)?, fault.cause)),
         _ => Err(Fail::from("a field's fault")),
@@ -101,7 +116,10 @@ fn fault_of<T: Drop>(alloc: Global, read: Result<T, JsonFault>) -> Result<(Vec<u
 fn fields_of_json(rt: HostRuntime) -> Result<(), Fail> {
     let alloc = rt.alloc();
     assert_eq!(rt; parse(alloc, b"{").err(), Some(ParseFault::NotJson));
-    assert_eq!(rt; parse(alloc, b"\"\\ud800\"").err(), Some(ParseFault::NotJson));
+    assert_eq!(rt;
+        parse(alloc, b"\"\\ud800\"").err(),
+        Some(ParseFault::NotJson)
+    );
     let Ok(value) = parse(alloc, b"{\"a\":[true,\"x\",7]}") else {
         return Err(Fail::from("JSON"));
     };
@@ -121,18 +139,28 @@ fn fields_of_json(rt: HostRuntime) -> Result<(), Fail> {
     assert!(rt; matches!(whole_at(alloc, &items[2], &third, 7), Ok(7)));
     assert!(rt; matches!(maybe(alloc, &value, &root, "b"), Ok(None)));
     let (place, cause) = fault_of(alloc, whole_at(alloc, &items[2], &third, 6))?;
-    assert_eq!(rt; (place.as_slice(), cause), (b"/a/2".as_slice(), FieldCause::OutOfRange));
+    assert_eq!(rt;
+        (place.as_slice(), cause),
+        (b"/a/2".as_slice(), FieldCause::OutOfRange)
+    );
     let (place, cause) = fault_of(alloc, need(alloc, &value, &root, "b"))?;
-    assert_eq!(rt; (place.as_slice(), cause), (b"/b".as_slice(), FieldCause::Missing));
+    assert_eq!(rt;
+        (place.as_slice(), cause),
+        (b"/b".as_slice(), FieldCause::Missing)
+    );
     let (place, cause) = fault_of(alloc, flag_at(alloc, list, &path.copy(alloc)?))?;
-    assert_eq!(rt; (place.as_slice(), cause), (b"/a".as_slice(), FieldCause::WrongKind));
+    assert_eq!(rt;
+        (place.as_slice(), cause),
+        (b"/a".as_slice(), FieldCause::WrongKind)
+    );
     Ok(())
 }
 
 #[test]
 fn host_indexes(rt: HostRuntime) -> Result<(), Fail> {
     let alloc = rt.alloc();
-    let text = b"{\"hosts\":[{\"host\":\"V.Example:8080\",\"host-metadata\":{\"metadata\":[{\"generic-metadata-type\":\"MI.X\",\"generic-metadata-value\":null,\"safe-to-redistribute\":false}]}}]}";
+    let text =
+        b"{\"hosts\":[{\"host\":\"V.Example:8080\",\"host-metadata\":{\"metadata\":[{\"generic-metadata-type\":\"MI.X\",\"generic-metadata-value\":null,\"safe-to-redistribute\":false}]}}]}";
     let Ok(index) = HostIndex::read(alloc, text) else {
         return Err(Fail::from("a HostIndex"));
     };
@@ -154,11 +182,27 @@ fn host_index_faults(rt: HostRuntime) -> Result<(), Fail> {
     for (text, place, cause) in [
         ("[]", "", FieldCause::WrongKind),
         ("{}", "/hosts", FieldCause::Missing),
-        ("{\"hosts\":[{\"host-metadata\":{}}]}", "/hosts/0/host", FieldCause::Missing),
+        (
+            "{\"hosts\":[{\"host-metadata\":{}}]}",
+            "/hosts/0/host",
+            FieldCause::Missing,
+        ),
         ("{\"hosts\":[7]}", "/hosts/0", FieldCause::WrongKind),
-        ("{\"hosts\":[{\"host\":\"a b\"}]}", "/hosts/0/host", FieldCause::OutOfRange),
-        ("{\"hosts\":[{\"host\":\"a\",\"host-metadata\":{\"paths\":null,\"metadata\":[{}]}}]}", "/hosts/0/host-metadata/metadata/0/generic-metadata-type", FieldCause::Missing),
-        ("{\"hosts\":[{\"host\":\"a\",\"host-metadata\":{\"paths\":null}}]}", "/hosts/0/host-metadata/paths", FieldCause::OutOfRange),
+        (
+            "{\"hosts\":[{\"host\":\"a b\"}]}",
+            "/hosts/0/host",
+            FieldCause::OutOfRange,
+        ),
+        (
+            "{\"hosts\":[{\"host\":\"a\",\"host-metadata\":{\"paths\":null,\"metadata\":[{}]}}]}",
+            "/hosts/0/host-metadata/metadata/0/generic-metadata-type",
+            FieldCause::Missing,
+        ),
+        (
+            "{\"hosts\":[{\"host\":\"a\",\"host-metadata\":{\"paths\":null}}]}",
+            "/hosts/0/host-metadata/paths",
+            FieldCause::OutOfRange,
+        ),
     ] {
         match HostIndex::read(alloc, text.as_bytes()) {
             Err(MetaFault::Field(fault)) => {
@@ -169,6 +213,8 @@ fn host_index_faults(rt: HostRuntime) -> Result<(), Fail> {
         }
     }
     assert!(rt; matches!(HostIndex::read(alloc, b"{"), Err(MetaFault::NotJson)));
-    assert!(rt; matches!(HostIndex::read(alloc, b"{\"hosts\":[{\"href\":\"/x\"}]}"), Err(MetaFault::Link { path }) if path.bytes() == b"/hosts/0".as_slice()));
+    assert!(rt;
+        matches!(HostIndex::read(alloc, b"{\"hosts\":[{\"href\":\"/x\"}]}"), Err(MetaFault::Link { path }) if path.bytes() == b"/hosts/0".as_slice())
+    );
     Ok(())
 }

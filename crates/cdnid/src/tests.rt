@@ -1,16 +1,22 @@
 //! What no clause says: worked scripts, the real streams, and that calls succeed where there is memory.
 
+use crate::scripts::SCRIPTS;
+use edge_base::{
+    MemorySink, MemorySource, Put, Sink, Source, Status, StdSink, StdSource, SteadySink,
+    SteadySource, Took, write_counted,
+};
+use http_node::batch_main;
 use std::alloc::Global;
 use std::fs;
 use std::test::Fail;
 
-use edge_base::{MemorySink, MemorySource, Put, Sink, Source, Status, SteadySink, SteadySource, StdSink, StdSource, Took, write_counted};
-use http_node::batch_main;
-
-use crate::scripts::SCRIPTS;
-
 // the status of `replay` on the script, and what it wrote, by reads and writes of these portions
-fn replayed(alloc: Global, script: &str, gives: &[u64], takes: &[u64]) -> Result<(Status, Vec<u8>), Fail> {
+fn replayed(
+    alloc: Global,
+    script: &str,
+    gives: &[u64],
+    takes: &[u64],
+) -> Result<(Status, Vec<u8>), Fail> {
     let words = vec![in alloc; String::from_str(alloc, "replay")?]?;
     let mut input = MemorySource::new(alloc, script.as_bytes(), gives)?;
     let mut output = MemorySink::new(alloc, takes)?;
@@ -44,7 +50,11 @@ fn open_deliveries_are_limited(rt: HostRuntime) -> Result<(), Fail> {
     let script = long_script(rt.alloc(), 20001)?;
     let (status, written) = replayed(rt.alloc(), script.as_str(), &[], &[])?;
     assert_eq!(rt; status, Status::Done);
-    assert!(rt; written.as_slice().ends_with(b"\ndenied 19999 503 no-source\ndenied 20000 503 no-source\nfull 20000\n"));
+    assert!(rt;
+        written.as_slice().ends_with(
+            b"\ndenied 19999 503 no-source\ndenied 20000 503 no-source\nfull 20000\n"
+        )
+    );
     Ok(())
 }
 
@@ -66,10 +76,30 @@ fn any_cut_gives_the_same(rt: HostRuntime) -> Result<(), Fail> {
 fn faults_end_the_replay(rt: HostRuntime) -> Result<(), Fail> {
     let (_, script, _, _) = SCRIPTS[2];
     let cases = [
-        ([0u64; 1].as_slice(), [].as_slice(), Status::ReadFault, b"".as_slice()),
-        ([20u64, 0].as_slice(), [].as_slice(), Status::ReadFault, b"due 1\n".as_slice()),
-        ([].as_slice(), [0u64; 1].as_slice(), Status::WriteFault, b"".as_slice()),
-        ([].as_slice(), [6u64, 4, 0].as_slice(), Status::WriteFault, b"due 1\ninst".as_slice()),
+        (
+            [0u64; 1].as_slice(),
+            [].as_slice(),
+            Status::ReadFault,
+            b"".as_slice(),
+        ),
+        (
+            [20u64, 0].as_slice(),
+            [].as_slice(),
+            Status::ReadFault,
+            b"due 1\n".as_slice(),
+        ),
+        (
+            [].as_slice(),
+            [0u64; 1].as_slice(),
+            Status::WriteFault,
+            b"".as_slice(),
+        ),
+        (
+            [].as_slice(),
+            [6u64, 4, 0].as_slice(),
+            Status::WriteFault,
+            b"due 1\ninst".as_slice(),
+        ),
     ];
     for (gives, takes, status, held) in cases {
         let (ended, written) = replayed(rt.alloc(), script, gives, takes)?;
@@ -82,7 +112,13 @@ fn faults_end_the_replay(rt: HostRuntime) -> Result<(), Fail> {
 #[test]
 fn other_words_are_no_command(rt: HostRuntime) -> Result<(), Fail> {
     let alloc = rt.alloc();
-    for words in [[].as_slice(), ["Replay"].as_slice(), ["replay", "replay"].as_slice(), ["--help"].as_slice(), [""].as_slice()] {
+    for words in [
+        [].as_slice(),
+        ["Replay"].as_slice(),
+        ["replay", "replay"].as_slice(),
+        ["--help"].as_slice(),
+        [""].as_slice(),
+    ] {
         let mut given = Vec::new(alloc);
         for word in words {
             given.push(String::from_str(alloc, word)?)?;

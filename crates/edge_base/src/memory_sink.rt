@@ -3,11 +3,10 @@
 ghost use Rattle.std.specs.Prelude.{◌≡◌, [], IfOk};
 ghost use Rattle.edge_base.specs.Feed.{Basin};
 
-use std::alloc::{AllocError, Global};
-use std::marker::Model;
-
 use crate::portions::Portions;
 use crate::sink::{Put, Sink};
+use std::alloc::{AllocError, Global};
+use std::marker::Model;
 
 /// A sink that keeps what it takes, takes it in given portions and fails at given calls.
 /// It tells what it holds. Where it finds no memory it counts a fault.
@@ -20,7 +19,9 @@ pub struct MemorySink {
 
 impl Model for MemorySink {
     ghost use Rattle.edge_base.specs.Feed.{Basin};
+
     ghost Value = { Basin };
+
     ghost view = { λ s. record { held = s.held.items; takes = s.takes; faults = s.faults } };
 }
 
@@ -34,7 +35,11 @@ impl MemorySink {
         ensures { IfOk result (λ s. s ≡ record { held = []; takes = takes.now; faults = 0 }) }
     {
         let takes = Portions::new(alloc, takes)?;
-        Ok(MemorySink { held: Vec::new(alloc), takes, faults: 0 })
+        Ok(MemorySink {
+            held: Vec::new(alloc),
+            takes,
+            faults: 0,
+        })
     }
 
     /// What it took.
@@ -54,7 +59,9 @@ impl MemorySink {
 
 impl Sink for MemorySink {
     ghost use Rattle.std.specs.Prelude.{Some};
+
     ghost held = { λ s. Some s.held };
+
     ghost faults = { λ s. s.faults };
 
     fn write(&mut self, piece: &[u8]) -> Put {

@@ -3,11 +3,10 @@
 ghost use Rattle.std.specs.Prelude.{◌≡◌, ◌+◌, ◌≤◌, ◌++◌, length, take, drop, IfOk};
 ghost use Rattle.edge_base.specs.Feed.{Feed};
 
-use std::alloc::{AllocError, Global};
-use std::marker::Model;
-
 use crate::portions::Portions;
 use crate::source::{Source, Took};
+use std::alloc::{AllocError, Global};
+use std::marker::Model;
 
 /// A source of given bytes, which gives them in given portions and fails at given calls.
 /// It tells what is left.
@@ -23,8 +22,11 @@ impl Model for MemorySource {
     ghost use Rattle.std.specs.Prelude.{◌≤◌, drop};
     ghost use Rattle.std.specs.Vec.{vec_len};
     ghost use Rattle.edge_base.specs.Feed.{Feed};
+
     ghost Value = { Feed };
+
     ghost view = { λ s. record { left = drop s.at s.bytes.items; gives = s.gives; faults = s.faults } };
+
     ghost invariant = { λ s. s.at ≤ vec_len s.bytes };
 }
 
@@ -39,7 +41,12 @@ impl MemorySource {
     {
         let bytes = Vec::from_slice(alloc, bytes)?;
         let gives = Portions::new(alloc, gives)?;
-        Ok(MemorySource { bytes, at: 0, gives, faults: 0 })
+        Ok(MemorySource {
+            bytes,
+            at: 0,
+            gives,
+            faults: 0,
+        })
     }
 
     /// How many of its calls failed, up to 2^64 - 1.
@@ -54,7 +61,9 @@ impl Source for MemorySource {
     ghost use Rattle.std.specs.Prelude.{◌≡◌, ◌<◌, length, Some};
     ghost use Rattle.edge_base.specs.Feed.{given};
     ghost use Rattle.edge_base.specs.Source.{IsCount, Reads, HasReadCause};
+
     ghost left = { λ s. Some s.left };
+
     ghost faults = { λ s. s.faults };
 
     /// Fails where its number for this call is 0, and else gives that many bytes, as far as there is room and they are left.

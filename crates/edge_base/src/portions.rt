@@ -16,8 +16,11 @@ pub(crate) struct Portions {
 impl Model for Portions {
     ghost use Rattle.std.specs.Prelude.{ℕ, ◌≤◌, List, drop};
     ghost use Rattle.std.specs.Vec.{vec_len};
+
     ghost Value = { List ℕ };
+
     ghost view = { λ p. drop p.at p.numbers.items };
+
     ghost invariant = { λ p. p.at ≤ vec_len p.numbers };
 }
 
@@ -25,7 +28,10 @@ impl Portions {
     pub(crate) fn new(alloc: Global, numbers: &[u64]) -> Result<Portions, AllocError>
         ensures { IfOk result (λ p. p ≡ numbers.now) }
     {
-        Ok(Portions { numbers: Vec::from_slice(alloc, numbers)?, at: 0 })
+        Ok(Portions {
+            numbers: Vec::from_slice(alloc, numbers)?,
+            at: 0,
+        })
     }
 
     // what the next call moves at most, where there is room for so much
@@ -39,6 +45,10 @@ impl Portions {
         }
         let number = self.numbers[self.at];
         self.at += 1;
-        if number < room as u64 { number as usize } else { room }
+        if number < room as u64 {
+            number as usize
+        } else {
+            room
+        }
     }
 }

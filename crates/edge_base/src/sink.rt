@@ -19,6 +19,7 @@ pub enum Put {
 /// The count of faults never falls.
 pub trait Sink: Drop {
     ghost held: { Self → Option (List ℕ) };
+
     ghost faults: { Self → ℕ };
 
     /// Takes the front of `piece`, as much as it likes but one byte at least.

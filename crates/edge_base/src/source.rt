@@ -21,6 +21,7 @@ pub enum Took {
 /// The count of faults never falls.
 pub trait Source: Drop {
     ghost left: { Self → Option (List ℕ) };
+
     ghost faults: { Self → ℕ };
 
     /// Reads the next bytes into the front of `buf`, as many as it likes but one at least.

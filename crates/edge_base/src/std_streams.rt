@@ -2,10 +2,9 @@
 
 ghost use Rattle.std.specs.Prelude.{◌≡◌};
 
-use std::io::{Read, Write};
-
 use crate::sink::{Put, Sink};
 use crate::source::{Source, Took};
+use std::io::{Read, Write};
 
 /// A source over any reader of the library. It does not tell what is left.
 #[derive(Drop)]
@@ -32,7 +31,9 @@ impl<R: Read + Drop> StdSource<R> {
 
 impl<R: Read + Drop> Source for StdSource<R> {
     ghost use Rattle.std.specs.Prelude.{None};
+
     ghost left = { λ _. None };
+
     ghost faults = { λ s. s.faults };
 
     fn read(&mut self, buf: &mut [u8]) -> Took {
@@ -73,7 +74,9 @@ impl<W: Write + Drop> StdSink<W> {
 
 impl<W: Write + Drop> Sink for StdSink<W> {
     ghost use Rattle.std.specs.Prelude.{None};
+
     ghost held = { λ _. None };
+
     ghost faults = { λ s. s.faults };
 
     fn write(&mut self, piece: &[u8]) -> Put {

@@ -2,12 +2,11 @@
 
 ghost use Rattle.std.specs.Prelude.{◌≡◌, IfOk};
 
-use std::alloc::{AllocError, Global};
-use std::marker::Model;
-
 use crate::memory_source::give;
 use crate::sink::{Put, Sink};
 use crate::source::{Source, Took};
+use std::alloc::{AllocError, Global};
+use std::marker::Model;
 
 /// A source of given bytes that never fails. It tells what is left.
 #[derive(Drop)]
@@ -19,8 +18,11 @@ pub struct SteadySource {
 impl Model for SteadySource {
     ghost use Rattle.std.specs.Prelude.{ℕ, ◌≤◌, List, drop};
     ghost use Rattle.std.specs.Vec.{vec_len};
+
     ghost Value = { List ℕ };
+
     ghost view = { λ s. drop s.at s.bytes.items };
+
     ghost invariant = { λ s. s.at ≤ vec_len s.bytes };
 }
 
@@ -32,13 +34,18 @@ impl SteadySource {
     pub fn new(alloc: Global, bytes: &[u8]) -> Result<SteadySource, AllocError>
         ensures { IfOk result (λ s. s ≡ bytes.now) }
     {
-        Ok(SteadySource { bytes: Vec::from_slice(alloc, bytes)?, at: 0 })
+        Ok(SteadySource {
+            bytes: Vec::from_slice(alloc, bytes)?,
+            at: 0,
+        })
     }
 }
 
 impl Source for SteadySource {
     ghost use Rattle.std.specs.Prelude.{Some};
+
     ghost left = { λ s. Some s };
+
     ghost faults = { λ _. 0 };
 
     fn read(&mut self, buf: &mut [u8]) -> Took {
@@ -75,7 +82,9 @@ impl SteadySink {
 
 impl Sink for SteadySink {
     ghost use Rattle.std.specs.Prelude.{None};
+
     ghost held = { λ _. None };
+
     ghost faults = { λ _. 0 };
 
     fn write(&mut self, piece: &[u8]) -> Put {

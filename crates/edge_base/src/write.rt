@@ -26,8 +26,14 @@ pub fn write_counted<K: Sink>(sink: &mut K, bytes: &[u8]) -> Written
     'pieces: while taken < bytes.len() {
         match sink.write(&bytes[taken..]) {
             Put::Some(count) => taken += count,
-            Put::Failed => return Written { taken: taken as u64, fault: true },
+            Put::Failed => return Written {
+                taken: taken as u64,
+                fault: true,
+            },
         }
     }
-    Written { taken: taken as u64, fault: false }
+    Written {
+        taken: taken as u64,
+        fault: false,
+    }
 }

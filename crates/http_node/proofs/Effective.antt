@@ -1,15 +1,12 @@
 -- The effective objects, one after the other.
-use Rattle.std.proofs.Common.{◌≡◌, ℕ, ◌+◌, ◌<◌, ◌≤◌, Bool, true, false, cond, not, ◌&&◌, ◌||◌, List, [], ◌∷◌, ◌++◌, length, take, drop, get_or, refl, sym, ◌∙◌, ap, subst, inl, inr, codes, None, Some, append_assoc, append-nil, add-one, drop-cons}
-use Rattle.std.specs.List.{find, list_any, flat_map}
+use Rattle.std.proofs.Common.{◌≡◌, ℕ, Bool, true, false, cond, ◌||◌, List, [], ◌∷◌, ◌++◌, refl, sym, ◌∙◌, ap, codes, None, Some}
+use Rattle.std.specs.List.{find, list_any}
 use Rattle.std.specs.Option.{option_map_or}
-use Rattle.std.specs.Str.{bytes_eq}
 use Rattle.std.specs.declared.option.Option.{Option}
 use Rattle.std.proofs.Math.Bool.{or-false}
 use Rattle.std.proofs.lemmas.Bool.{cond-true, cond-false, false≢true, true≢false}
 use Rattle.std.proofs.lemmas.List.Folds.{list_any-append}
 use Rattle.std.proofs.lemmas.Slice.Eq.{bytes_eq-Decides}
-use Rattle.cdni_base.specs.declared.endpoint.Endpoint.{Endpoint}
-use Rattle.cdni_base.specs.declared.target.SourceItem.{SourceItem}
 use Rattle.metadata_objects.specs.declared.generic.Generic.{Generic}
 use Rattle.http_node.specs.Evaluation.{is_of_kind, effective_after, effective, plan_held, plan_of}
 
@@ -43,8 +40,8 @@ first_after : (kind : List ℕ) (before objects : List Generic)
 first_after kind before [] = none_either (list_any (is_of_kind kind) before)
 first_after kind before (object ∷ objects) =
     kept_front (is_of_kind kind) object (effective_after (before ++ object ∷ []) objects) (find (is_of_kind kind) objects) (list_any (is_of_kind kind) before)
-      (list_any (is_of_kind object.kind) before) (is_of_kind kind object) refl (same_among kind object before)
-      (first_after kind (before ++ object ∷ []) objects ∙ ap (λ b. cond b None (find (is_of_kind kind) objects)) (any_push kind before object))
+    (list_any (is_of_kind object.kind) before) (is_of_kind kind object) refl (same_among kind object before)
+    (first_after kind (before ++ object ∷ []) objects ∙ ap (λ b. cond b None (find (is_of_kind kind) objects)) (any_push kind before object))
 
 -- the effective object of a type is the first of it
 pub first_effective : (kind : List ℕ) (objects : List Generic) → find (is_of_kind kind) (effective objects) ≡ find (is_of_kind kind) objects

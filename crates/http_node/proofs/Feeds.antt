@@ -1,15 +1,15 @@
 -- Line feeds, and bytes without any.
-use Rattle.std.proofs.Common.{◌≡◌, ℕ, zero, suc, ◌+◌, ◌-◌, ◌<◌, ◌≤◌, ◌==◌, Bool, true, false, cond, not, ◌&&◌, List, [], ◌∷◌, ◌++◌, length, take, drop, get_or, refl, rules, sym, ◌∙◌, ap, subst, arith, inl, inr, None, Some, IsTrue, min, append_assoc, append-nil, length-append, add-one, drop-cons}
-use Rattle.std.specs.List.{list_all, prefix_len}
+use Rattle.std.proofs.Common.{◌≡◌, ℕ, zero, suc, ◌+◌, ◌<◌, ◌≤◌, ◌==◌, Bool, true, not, List, [], ◌∷◌, ◌++◌, length, take, drop, get_or, refl, sym, ◌∙◌, ap, arith, None, Some, min, append_assoc, append-nil, length-append, add-one, drop-cons}
+use Rattle.std.specs.List.{list_all}
 use Rattle.std.specs.declared.option.Option.{Option}
-use Rattle.std.specs.Io.KnownBytes.{Consumes, Keeps, IsAtEnd}
+use Rattle.std.specs.Io.KnownBytes.{Consumes, Keeps}
 use Rattle.std.proofs.KnownBytes.{Consumes-trans, Consumes-nil, Consumes-kept}
-use Rattle.std.proofs.lemmas.Bool.{and_parts, and_from, cond-true, cond-false, eqb-true, eq-eqb, ne_eqb, not-true, not_from_false, false_from_ne_true, lt-ltb, le-ltb}
+use Rattle.std.proofs.lemmas.Bool.{and_from, eqb-true, not_from_false, false_from_ne_true}
 use Rattle.std.proofs.Math.Seq.{take-length}
 use Rattle.std.proofs.lemmas.List.{take-append-drop, length-take, get_or-take, take-take}
 use Rattle.std.proofs.lemmas.List.Folds.{list_all-append}
 use Rattle.memchr.specs.Find.{IsFirstByte, is_byte}
-use Rattle.http_node.specs.Lines.{Line, NoFeed, lines_of, on_first}
+use Rattle.http_node.specs.Lines.{NoFeed}
 use Rattle.http_node.specs.Ahead.{Moves, Goes, TakesPiece}
 use Rattle.http_node.specs.declared.ahead.Piece.TheVariants as piece
 
@@ -59,17 +59,25 @@ takes_line ahead after line longer window n place is first rest grown room =
     let within : place < n = omega (arith, short, f.0) in
     let inside : place < length ahead = omega (arith, short, f.0) in
     let byte : get_or ahead place 0 ≡ 10 = sym (get_or-take n ahead place 0 within) ∙ ap (λ bytes. get_or bytes place 0) (sym is) ∙ f.2 in
-    let same : take place window ≡ take place ahead = ap (take place) is ∙ take-take place n ahead (omega arith) in
-    ((take place window, record {
-        parts = cut_feed ahead place inside byte ∙ ap (λ bytes. (bytes ++ 10 ∷ []) ++ drop (place + 1) ahead) (sym same) ∙ ap (λ bytes. (take place window ++ 10 ∷ []) ++ bytes) (sym rest);
-        grown = grown; plain = f.1 }),
-     omega (arith, ap length grown, length-append line (take place window), length-take place window))
+    let same : take place window ≡ take place ahead = ap (take place) is ∙ take-take place n ahead (omega arith) in (
+      (
+        take place window,
+        record {
+          parts = cut_feed ahead place inside byte ∙ ap (λ bytes. (bytes ++ 10 ∷ []) ++ drop (place + 1) ahead) (sym same) ∙ ap (λ bytes. (take place window ++ 10 ∷ []) ++ bytes) (sym rest);
+          grown = grown;
+          plain = f.1;
+        },
+      ),
+      omega (arith, ap length grown, length-append line (take place window), length-take place window),
+    )
 
 goes_on : (ahead after line longer window : List ℕ) (n : ℕ) → window ≡ take n ahead → IsFirstByte (is_byte 10) window None
     → after ≡ drop (length window) ahead → longer ≡ line ++ window → Goes ahead after line longer window []
 goes_on ahead after line longer window n is none rest grown = record {
-    parts = sym (take_and_rest n ahead) ∙ ap (λ bytes. bytes ++ drop (length bytes) ahead) (sym is) ∙ ap (λ bytes. window ++ bytes) (sym rest) ∙ ap (λ bytes. bytes ++ after) (sym (append-nil window));
-    grown = grown; plain = feed_nowhere window none }
+  parts = sym (take_and_rest n ahead) ∙ ap (λ bytes. bytes ++ drop (length bytes) ahead) (sym is) ∙ ap (λ bytes. window ++ bytes) (sym rest) ∙ ap (λ bytes. bytes ++ after) (sym (append-nil window));
+  grown = grown;
+  plain = feed_nowhere window none;
+}
 
 pub takes_long : (ahead after line longer window : List ℕ) (n : ℕ) → window ≡ take n ahead → IsFirstByte (is_byte 10) window None
     → after ≡ drop (length window) ahead → longer ≡ line ++ window → length longer ≡ 40000000 → TakesPiece ahead after line longer piece.TooLong
@@ -89,9 +97,10 @@ moves_nothing left before = record { taken = []; consumed = Consumes-nil left; p
 
 pub moves_read : (old mid new : Option (List ℕ)) (before ahead more line taken : List ℕ) → Moves old mid before ahead line → Consumes mid new taken → more ≡ ahead ++ taken → Moves old new before more line
 moves_read old mid new before ahead more line taken m consumed is = record {
-    taken = m.taken ++ taken;
-    consumed = Consumes-trans _ _ _ _ _ m.consumed consumed;
-    parts = sym (append_assoc before m.taken taken) ∙ ap (λ bytes. bytes ++ taken) m.parts ∙ append_assoc line ahead taken ∙ ap (λ bytes. line ++ bytes) (sym is) }
+  taken = m.taken ++ taken;
+  consumed = Consumes-trans _ _ _ _ _ m.consumed consumed;
+  parts = sym (append_assoc before m.taken taken) ∙ ap (λ bytes. bytes ++ taken) m.parts ∙ append_assoc line ahead taken ∙ ap (λ bytes. line ++ bytes) (sym is);
+}
 
 pub moves_kept : (old mid new : Option (List ℕ)) (before ahead more line : List ℕ) → Moves old mid before ahead line → Keeps mid new → ahead ≡ more → Moves old new before more line
 moves_kept old mid new before ahead more line m kept is = record { taken = m.taken; consumed = Consumes-kept _ _ _ _ m.consumed kept; parts = m.parts ∙ ap (λ bytes. line ++ bytes) is }

@@ -1,9 +1,8 @@
 -- The open refresh at a place.
-use Rattle.std.proofs.Common.{◌≡◌, ℕ, suc, ◌+◌, ◌<◌, ◌≤◌, Bool, true, false, cond, List, [], ◌∷◌, ◌++◌, length, take, drop, get_or, refl, sym, ◌∙◌, ap, None, Some, drop-cons, slice_get}
+use Rattle.std.proofs.Common.{◌≡◌, ℕ, ◌<◌, true, List, ◌++◌, length, take, drop, get_or, refl, sym, ◌∙◌, ap, Some, drop-cons, slice_get}
 use Rattle.std.specs.List.{find, remove}
 use Rattle.std.specs.Option.{option_map}
-use Rattle.std.specs.declared.option.Option.{Option}
-use Rattle.std.proofs.lemmas.Bool.{cond-true, cond-false}
+use Rattle.std.proofs.lemmas.Bool.{cond-true}
 use Rattle.std.proofs.lemmas.Option.{slice_get-get_or, slice_get_read}
 use Rattle.http_node.specs.declared.call.OpenRefresh.{OpenRefresh}
 use Rattle.http_node.specs.History.{is_open, without}
@@ -13,10 +12,11 @@ pub at_place : (refresh pass : ℕ) (begun : List OpenRefresh) (i : ℕ) (d : Op
     → take i begun ++ without refresh pass (drop i begun) ≡ without refresh pass begun
     → (i < length begun) × (find (is_open refresh pass) begun ≡ slice_get begun i) × (without refresh pass begun ≡ remove begun i)
 at_place refresh pass begun i d below passes found rest =
-    let here = drop-cons begun i d below in
-    (below,
-     sym found ∙ ap (find (is_open refresh pass)) here ∙ cond-true _ _ _ passes ∙ sym (slice_get-get_or begun i d below),
-     sym rest ∙ ap (λ xs. take i begun ++ without refresh pass xs) here ∙ ap (λ xs. take i begun ++ xs) (cond-true _ _ _ passes))
+    let here = drop-cons begun i d below in (
+      below,
+      sym found ∙ ap (find (is_open refresh pass)) here ∙ cond-true _ _ _ passes ∙ sym (slice_get-get_or begun i d below),
+      sym rest ∙ ap (λ xs. take i begun ++ without refresh pass xs) here ∙ ap (λ xs. take i begun ++ xs) (cond-true _ _ _ passes),
+    )
 
 pub begun_at_place : (refresh pass : ℕ) (begun : List OpenRefresh) (i : ℕ) (one : OpenRefresh) → i < length begun → find (is_open refresh pass) begun ≡ slice_get begun i
     → one ≡ get_or begun i one → Some one.moment ≡ option_map (λ b. b.moment) (find (is_open refresh pass) begun)

@@ -1,22 +1,21 @@
 -- A replay on its way: what was read and written so far, and that the answers of all that was read, with anything behind it,
 -- are what was written and then the answers of the lines that follow.
-use Rattle.std.proofs.Common.{◌≡◌, ℕ, ◌+◌, ◌-◌, ◌^◌, ◌<◌, ◌≤◌, Bool, true, false, List, [], ◌∷◌, ◌++◌, length, take, drop, refl, sym, ◌∙◌, ap, subst, arith, inl, inr, None, Some, append_assoc, append-nil, length-append}
+use Rattle.std.proofs.Common.{◌≡◌, ℕ, ◌+◌, ◌^◌, ◌<◌, ◌≤◌, true, false, List, [], ◌∷◌, ◌++◌, length, take, drop, sym, ◌∙◌, ap, subst, arith, None, Some, append_assoc, append-nil, length-append}
 use Rattle.std.specs.declared.option.Option.{Option}
-use Rattle.std.specs.Io.KnownBytes.{Consumes, Appends, Keeps, IsAtEnd}
+use Rattle.std.specs.Io.KnownBytes.{Consumes, Appends, IsAtEnd}
 use Rattle.std.proofs.KnownBytes.{Consumes-trans, Consumes-nil, Appends-trans, Appends-nil}
 use Rattle.std.proofs.Math.Seq.{take-append_seam, take-length}
 use Rattle.std.proofs.lemmas.List.{take-append-drop}
 use Rattle.cdni_base.specs.Limits.{default_limits}
 use Rattle.http_node.specs.Ahead.{Moves}
 use Rattle.http_node.specs.Answer.{answer_line}
-use Rattle.http_node.specs.Batch.{IsTold, AppendsFront, EndsAt, Ends}
+use Rattle.http_node.specs.Batch.{IsTold, AppendsFront, Ends}
 use Rattle.http_node.specs.History.{Entry, History, World, after, nothing, world_of, reply_in, reply_to}
 use Rattle.http_node.specs.Lines.{Line, lines_of, NoFeed}
 use Rattle.http_node.specs.Stepped.{StepsTo}
 use Rattle.http_node.specs.declared.replaying.Stepped.TheVariants as stepped
 use Rattle.http_node.specs.Script.{form_of, form_after, next_entry, Answered, with_text, answers_from, answers}
 use Rattle.http_node.specs.declared.replaying.Form.{Form}
-use Rattle.http_node.specs.declared.replaying.ReplayEnd.{ReplayEnd}
 use Rattle.http_node.specs.declared.replaying.ReplayEnd.TheVariants as replay_end
 use Rattle.http_node.proofs.Scripts.{lines_of-line, lines_of-open, lines_of-begins, next_entry-open, next_entry-long, next_entry-fits, world_of_push, form_of_push, answers_stop, answers_next, answers_none, with_text-trans}
 
@@ -32,11 +31,18 @@ pub record Running (left0 left held0 held : Option (List ℕ)) (ahead : List ℕ
 
 pub running_start : (left held : Option (List ℕ)) (ahead : List ℕ) → ahead ≡ [] → (form : Form) → form ≡ form_of [] → (core : World) → core ≡ nothing default_limits → Running left left held held ahead 1 0 form core
 unfolding answers world_of
-running_start left held ahead empty form formed core stands = record { h = []; stands = stands; formed = formed; taken = []; written = []; consumed = Consumes-nil left; appended = Appends-nil held;
-    rest = λ more. ap (λ xs. with_text [] (answers_from default_limits 1 0 [] (lines_of (xs ++ more)))) (sym empty) }
+running_start left held ahead empty form formed core stands = record {
+  h = [];
+  stands = stands;
+  formed = formed;
+  taken = [];
+  written = [];
+  consumed = Consumes-nil left;
+  appended = Appends-nil held;
+  rest = λ more. ap (λ xs. with_text [] (answers_from default_limits 1 0 [] (lines_of (xs ++ more)))) (sym empty);
+}
 
 -- ---- what the input tells
-
 
 told_end : (left0 left : Option (List ℕ)) (taken : List ℕ) → Consumes left0 left taken → IsAtEnd left → IsTold left0 taken
 told_end None left taken consumed end = tt
@@ -91,14 +97,15 @@ module _ (left0 left held0 held : Option (List ℕ)) (ahead : List ℕ) (number 
       → Appends held held' (answer_line (reply_in core e)) → (form' : Form) → form' ≡ form_after form e.0 → (core' : World) → core' ≡ after core e
       → Running left0 left' held0 held' behind (number + 1) (at + (length line + 1)) form' core'
   running_line left' held' behind line m none e is put form' formed core' stands = record {
-      h = r.h ++ e ∷ [];
-      stands = stands ∙ ap (λ w. after w e) r.stands ∙ sym (world_of_push default_limits r.h e);
-      formed = formed ∙ ap (λ f. form_after f e.0) r.formed ∙ sym (form_of_push r.h e);
-      taken = r.taken ++ m.taken;
-      written = r.written ++ answer_line (reply_in core e);
-      consumed = Consumes-trans _ _ _ _ _ r.consumed m.consumed;
-      appended = Appends-trans _ _ _ _ _ r.appended put;
-      rest = λ more. answered left' behind line more m none e is }
+    h = r.h ++ e ∷ [];
+    stands = stands ∙ ap (λ w. after w e) r.stands ∙ sym (world_of_push default_limits r.h e);
+    formed = formed ∙ ap (λ f. form_after f e.0) r.formed ∙ sym (form_of_push r.h e);
+    taken = r.taken ++ m.taken;
+    written = r.written ++ answer_line (reply_in core e);
+    consumed = Consumes-trans _ _ _ _ _ r.consumed m.consumed;
+    appended = Appends-trans _ _ _ _ _ r.appended put;
+    rest = λ more. answered left' behind line more m none e is;
+  }
 
   -- a part of an answer was written
   pub replay_cut : (left' held' : Option (List ℕ)) (behind line : List ℕ) → Moves left left' ahead behind (line ++ 10 ∷ []) → NoFeed line
@@ -108,9 +115,12 @@ module _ (left0 left held0 held : Option (List ℕ)) (ahead : List ℕ) (number 
       let told = told_whole left0 left' (r.taken ++ m.taken) (Consumes-trans _ _ _ _ _ r.consumed m.consumed) in
       let all = ap (λ (a : Answered). a.text) (answered left' behind line told.0 m none e is) in
       let text = answer_line (reply_in core e) in
-      let rest = (answers_from default_limits (number + 1) (at + (length line + 1)) (r.h ++ e ∷ []) (lines_of (behind ++ told.0))).text in
-      (_, told.1, front held0 held' (r.written ++ take n text) (drop n text ++ rest) _ (Appends-trans _ _ _ _ _ r.appended put)
-        (all ∙ ap (λ t. (r.written ++ t) ++ rest) (sym (take-append-drop n text)) ∙ regroup r.written (take n text) (drop n text) rest))
+      let rest = (answers_from default_limits (number + 1) (at + (length line + 1)) (r.h ++ e ∷ []) (lines_of (behind ++ told.0))).text in (
+        _,
+        told.1,
+        front held0 held' (r.written ++ take n text) (drop n text ++ rest) _ (Appends-trans _ _ _ _ _ r.appended put)
+            (all ∙ ap (λ t. (r.written ++ t) ++ rest) (sym (take-append-drop n text)) ∙ regroup r.written (take n text) (drop n text) rest),
+      )
 
   module _ (left' held' : Option (List ℕ)) (behind line bytes answer shown : List ℕ) (core' : World) (pass n : ℕ)
       (m : Moves left left' ahead behind (line ++ 10 ∷ [])) (none : NoFeed line) (step : StepsTo core core' form at bytes answer (stepped.Answered pass)) (same : bytes ≡ line)
@@ -130,7 +140,7 @@ module _ (left0 left held0 held : Option (List ℕ)) (ahead : List ℕ) (number 
         let whole : take n shown ≡ answer_line (reply_in core step.0) = ap (λ k. take k shown) all ∙ take-length shown ∙ show ∙ step.4 in
         let put' = subst (λ text. Appends held held' text) whole put in
         subst (λ k. Running left0 left' held0 held' behind (number + 1) (at + (k + 1)) form' core') (sym is)
-          (running_line left' held' behind line m none step.0 the_entry put' form' (formed ∙ ap (form_after form) (sym step.1)) core' step.3)
+        (running_line left' held' behind line m none step.0 the_entry put' form' (formed ∙ ap (form_after form) (sym step.1)) core' step.3)
 
   -- reading or memory failed
   so_far : (left' : Option (List ℕ)) (behind bytes : List ℕ) → Moves left left' ahead behind bytes → (script : List ℕ) × IsTold left0 script × AppendsFront held0 held (answers script).text
@@ -149,9 +159,11 @@ module _ (left0 left held0 held : Option (List ℕ)) (ahead : List ℕ) (number 
   replay_done left' behind (b ∷ line) m empty end none = absurd (omega arith)
   replay_done left' behind [] m empty end none =
       let all = r.rest m.taken ∙ ap (λ xs. with_text r.written (answers_from default_limits number at r.h (lines_of xs))) (m.parts ∙ none)
-          ∙ ap (with_text r.written) (answers_none default_limits number at r.h) in
-      (r.taken ++ m.taken, told_end left0 left' _ (Consumes-trans _ _ _ _ _ r.consumed m.consumed) end,
-       (end, ap (λ (a : Answered). a.stops) all, subst (λ text. Appends held0 held text) (sym (ap (λ (a : Answered). a.text) all ∙ append-nil r.written)) r.appended))
+      ∙ ap (with_text r.written) (answers_none default_limits number at r.h) in (
+        r.taken ++ m.taken,
+        told_end left0 left' _ (Consumes-trans _ _ _ _ _ r.consumed m.consumed) end,
+        (end, ap (λ (a : Answered). a.stops) all, subst (λ text. Appends held0 held text) (sym (ap (λ (a : Answered). a.text) all ∙ append-nil r.written)) r.appended),
+      )
 
   -- a line is none
   stop : (left' : Option (List ℕ)) (script : List ℕ) (line : Line) (lines : List Line) → IsTold left0 script
@@ -167,9 +179,9 @@ module _ (left0 left held0 held : Option (List ℕ)) (ahead : List ℕ) (number 
   replay_open left' behind (b ∷ line) m none some end empty =
       let bytes : b ∷ line ++ behind ≡ b ∷ line = ap (λ xs. b ∷ line ++ xs) empty ∙ append-nil (b ∷ line) in
       stop left' (r.taken ++ m.taken) (record { body = b ∷ line; ended = false }) [] (told_end left0 left' _ (Consumes-trans _ _ _ _ _ r.consumed m.consumed) end)
-        (r.rest m.taken ∙ ap (λ xs. with_text r.written (answers_from default_limits number at r.h (lines_of xs))) (m.parts ∙ bytes)
-          ∙ ap (λ lines. with_text r.written (answers_from default_limits number at r.h lines)) (lines_of-open b line none))
-        (next_entry-open at form (b ∷ line))
+      (r.rest m.taken ∙ ap (λ xs. with_text r.written (answers_from default_limits number at r.h (lines_of xs))) (m.parts ∙ bytes)
+      ∙ ap (λ lines. with_text r.written (answers_from default_limits number at r.h lines)) (lines_of-open b line none))
+      (next_entry-open at form (b ∷ line))
 
   -- the line is too long
   pub replay_long : (left' : Option (List ℕ)) (behind line : List ℕ) → Moves left left' ahead behind line → NoFeed line → length line ≡ 40000000
@@ -179,8 +191,8 @@ module _ (left0 left held0 held : Option (List ℕ)) (ahead : List ℕ) (number 
       let told = told_whole left0 left' (r.taken ++ m.taken) (Consumes-trans _ _ _ _ _ r.consumed m.consumed) in
       let begins = lines_of-begins b line (behind ++ told.0) none in
       stop left' _ (record { body = b ∷ line ++ begins.0; ended = begins.1 }) begins.2 told.1
-        (moved left' behind (b ∷ line) told.0 m ∙ ap (λ lines. with_text r.written (answers_from default_limits number at r.h lines)) begins.3)
-        (next_entry-long at form (b ∷ line ++ begins.0) begins.1 (omega (arith, long, length-append (b ∷ line) begins.0)))
+      (moved left' behind (b ∷ line) told.0 m ∙ ap (λ lines. with_text r.written (answers_from default_limits number at r.h lines)) begins.3)
+      (next_entry-long at form (b ∷ line ++ begins.0) begins.1 (omega (arith, long, length-append (b ∷ line) begins.0)))
 
   -- the line has no entry
   pub replay_none : (left' : Option (List ℕ)) (behind line : List ℕ) → Moves left left' ahead behind (line ++ 10 ∷ []) → NoFeed line

@@ -1,17 +1,15 @@
 -- Lines of a script, and the answers from a line on.
-use Rattle.std.proofs.Common.{◌≡◌, ℕ, zero, suc, ◌+◌, ◌-◌, ◌^◌, ◌<◌, ◌≤◌, ◌==◌, Bool, true, false, cond, not, ◌&&◌, List, [], ◌∷◌, ◌++◌, length, take, drop, refl, sym, ◌∙◌, ap, subst, arith, None, Some, nat_le, append_assoc, append-nil}
-use Rattle.std.specs.List.{list_all, fold}
-use Rattle.std.specs.Option.{option_map_or}
+use Rattle.std.proofs.Common.{◌≡◌, ℕ, ◌+◌, ◌^◌, ◌≤◌, ◌==◌, Bool, true, false, cond, not, List, [], ◌∷◌, ◌++◌, length, refl, sym, ◌∙◌, ap, subst, arith, None, Some, nat_le, append_assoc}
+use Rattle.std.specs.List.{list_all}
 use Rattle.std.specs.declared.option.Option.{Option}
-use Rattle.std.proofs.lemmas.Bool.{and_parts, and_left, and_right, cond-true, cond-false, not-true, lt-leb, leb-true}
+use Rattle.std.proofs.lemmas.Bool.{and_parts, and_left, and_right, cond-false, not-true, lt-leb, leb-true}
 use Rattle.std.proofs.lemmas.List.Sums.{fold-append}
 use Rattle.cdni_base.specs.Limits.{Bounds}
 use Rattle.http_node.specs.Answer.{answer_line}
-use Rattle.http_node.specs.History.{Entry, History, World, after, nothing, world_of, reply_in, reply_to}
+use Rattle.http_node.specs.History.{Entry, History, after, nothing, world_of, reply_to}
 use Rattle.http_node.specs.Lines.{Line, lines_of, on_first, NoFeed}
 use Rattle.http_node.specs.Script.{form_of, form_after, next_entry, fits, Answered, with_text, answers_from}
 use Rattle.http_node.specs.declared.replaying.Form.{Form}
-use Rattle.http_node.specs.declared.replaying.Form.TheVariants.{Opening, Document, Requests}
 
 -- ---- lines
 
@@ -54,7 +52,7 @@ pub lines_of-begins : (b : ℕ) (bytes rest : List ℕ) → NoFeed (b ∷ bytes)
 lines_of-begins b [] rest none = subst (BeginsWith (b ∷ [])) (sym (lines_of-plain b rest (first_plain b [] none))) (first_begins b (lines_of rest))
 lines_of-begins b (c ∷ bytes) rest none =
     subst (BeginsWith (b ∷ c ∷ bytes)) (sym (lines_of-plain b (c ∷ (bytes ++ rest)) (first_plain b (c ∷ bytes) none)))
-      (more_begins b (c ∷ bytes) (lines_of (c ∷ (bytes ++ rest))) (lines_of-begins c bytes rest (rest_plain b (c ∷ bytes) none)))
+    (more_begins b (c ∷ bytes) (lines_of (c ∷ (bytes ++ rest))) (lines_of-begins c bytes rest (rest_plain b (c ∷ bytes) none)))
 
 -- ---- lines that are no script lines
 

@@ -1,8 +1,7 @@
 -- Texts that are cut at a byte, one part after the other.
-use Rattle.std.proofs.Common.{◌≡◌, ℕ, suc, ◌+◌, ◌-◌, ◌<◌, ◌≤◌, ◌==◌, Bool, true, false, cond, not, ◌&&◌, List, [], ◌∷◌, length, take, drop, refl, sym, ◌∙◌, ap, arith, inl, inr, None, Some, add-one, length-drop}
-use Rattle.std.specs.List.{slice_split, onto_first, position_or_len, prefix_len, list_all}
-use Rattle.std.specs.Option.{option_map, is_some}
-use Rattle.std.specs.declared.option.Option.{Option}
+use Rattle.std.proofs.Common.{◌≡◌, ℕ, ◌+◌, ◌<◌, ◌≤◌, ◌==◌, Bool, true, false, cond, ◌&&◌, List, [], ◌∷◌, length, take, drop, refl, sym, ◌∙◌, ap, arith, inl, inr, None, Some, length-drop}
+use Rattle.std.specs.List.{slice_split, onto_first, position_or_len, list_all}
+use Rattle.std.specs.Option.{option_map}
 use Rattle.std.proofs.lemmas.Bool.{cases_Bool, cond-true, cond-false, ltb-true, ltb-false, and_left, not_from_true, not_from_false}
 use Rattle.std.proofs.Math.Bool.{and-true}
 use Rattle.std.proofs.lemmas.List.Splits.{slice_split_first, slice_split-cons_no}
@@ -36,9 +35,10 @@ cut_shorter byte text front after is =
 whole : (p : ℕ → Bool) (text : List ℕ) → length text ≤ position_or_len p text → slice_split p text ≡ text ∷ []
 whole p [] over = refl
 whole p (x ∷ text) over = elim (cases_Bool (p x)) [
-    inl is ↦ let none : position_or_len p (x ∷ text) ≡ 0 = cond-false _ _ _ (not_from_true (p x) is) in absurd (omega (arith, none, over))
+  | inl is ↦ let none : position_or_len p (x ∷ text) ≡ 0 = cond-false _ _ _ (not_from_true (p x) is) in absurd (omega (arith, none, over))
   | inr is ↦ let more : position_or_len p (x ∷ text) ≡ 1 + position_or_len p text = cond-true _ _ _ (not_from_false (p x) is) in
-      slice_split-cons_no p x text is ∙ ap (onto_first x) (whole p text (omega (arith, more, over))) ]
+      slice_split-cons_no p x text is ∙ ap (onto_first x) (whole p text (omega (arith, more, over)))
+]
 
 pub whole_part : (byte : ℕ) (text : List ℕ) → None ≡ parts_at byte text → parts_of byte text ≡ text ∷ []
 unfolding parts_at

@@ -1,14 +1,13 @@
 -- The grammar of a script's lines.
-use Rattle.std.specs.Prelude.{ℕ, ◌+◌, ◌-◌, ◌^◌, Bool, true, false, not, List, [], ◌∷◌, codes, bytes_eq, length, take, drop, slice_index, None, Some, ◌==◌, ◌&&◌, ◌||◌, nat_lt, nat_le, position, if◌then◌else◌}
+use Rattle.std.specs.Prelude.{ℕ, ◌^◌, Bool, List, codes, bytes_eq, length, take, drop, None, Some, ◌==◌, ◌&&◌, ◌||◌, nat_lt, nat_le, position, if◌then◌else◌}
 use Rattle.std.specs.Char.{is_ascii_alphanumeric, is_ascii_lowercase}
 use Rattle.std.specs.List.{list_all, list_any, slice_split}
-use Rattle.std.specs.Option.{option_map, option_map_or, is_some}
+use Rattle.std.specs.Option.{option_map, is_some}
 use Rattle.std.specs.Result.{result_ok}
 use Rattle.std.specs.declared.option.Option.{Option}
 use Rattle.listing.specs.Number.{number_of}
 use Rattle.listing.specs.Word.{◌>>=◌, parts_at}
 use Rattle.cdni_base.specs.Endpoint.{endpoint_of}
-use Rattle.cdni_base.specs.declared.endpoint.Endpoint.{Endpoint}
 use Rattle.cdni_base.specs.declared.target.Asked.{Asked}
 use Rattle.cdni_base.specs.declared.target.Protocol.{Protocol}
 use Rattle.cdni_base.specs.declared.target.Protocol.TheVariants.{Http, Https}

@@ -1,5 +1,5 @@
 -- A history of calls, oldest first, what it leaves, and what the next call is answered.
-use Rattle.std.specs.Prelude.{ℕ, ◌+◌, ◌-◌, ◌^◌, Bool, true, false, List, [], ◌∷◌, ◌++◌, min, None, Some, ◌==◌, ◌&&◌, nat_lt, if◌then◌else◌}
+use Rattle.std.specs.Prelude.{ℕ, ◌+◌, ◌-◌, ◌^◌, Bool, List, [], ◌∷◌, ◌++◌, min, None, Some, ◌==◌, ◌&&◌, nat_lt, if◌then◌else◌}
 use Rattle.std.specs.List.{find, fold}
 use Rattle.std.specs.Option.{option_map, option_and_then}
 use Rattle.std.specs.declared.option.Option.{Option}
@@ -28,13 +28,13 @@ pub record Installed : Type 0 where
 -- what a history leaves, under these limits
 pub record World : Type 0 where
   pub limits : Bounds
-  pub refreshed : ℕ                    -- refreshes that were begun
-  pub refreshes : List OpenRefresh     -- those not ended, in order
+  pub refreshed : ℕ  -- refreshes that were begun
+  pub refreshes : List OpenRefresh  -- those not ended, in order
   pub installed : Option Installed
-  pub generation : ℕ                   -- installations
-  pub delivered : ℕ                    -- deliveries that were begun; no call ends one yet
-  pub fetched : ℕ                      -- fetches that were begun
-  pub opened : ℕ                       -- answers that began something
+  pub generation : ℕ  -- installations
+  pub delivered : ℕ  -- deliveries that were begun; no call ends one yet
+  pub fetched : ℕ  -- fetches that were begun
+  pub opened : ℕ  -- answers that began something
 
 abbrev pub nothing : Bounds → World
 nothing limits = record { limits = limits; refreshed = 0; refreshes = []; installed = None; generation = 0; delivered = 0; fetched = 0; opened = 0 }

@@ -51,8 +51,11 @@ pub struct Ahead {
 impl Model for Ahead {
     ghost use Rattle.std.specs.Prelude.{ℕ, ◌<◌, ◌≤◌, List, take, drop};
     ghost use Rattle.std.specs.Vec.{vec_len};
+
     ghost Value = { List ℕ };
+
     ghost view = { λ a. drop a.from (take a.to a.bytes.items) };
+
     ghost invariant = { λ a. (a.from ≤ a.to) × (a.to ≤ vec_len a.bytes) × (0 < vec_len a.bytes) };
 }
 
@@ -64,7 +67,11 @@ impl Ahead {
     pub fn new(alloc: Global) -> Result<Ahead, AllocError>
         ensures { IfOk result (λ a. a ≡ []) }
     {
-        Ok(Ahead { bytes: vec![in alloc; 0; 65536]?, from: 0, to: 0 })
+        Ok(Ahead {
+            bytes: vec![in alloc; 0; 65536]?,
+            from: 0,
+            to: 0,
+        })
     }
 
     /// Reads the next line of the source into `line`, without its line feed.
@@ -110,7 +117,11 @@ impl Ahead {
         ensures { result.now ≡ take room self.now }
     {
         let front = &self.bytes[self.from..self.to];
-        if front.len() < room { front } else { &front[..room] }
+        if front.len() < room {
+            front
+        } else {
+            &front[..room]
+        }
     }
 
     // leaves out the first bytes of what is ahead
@@ -143,7 +154,11 @@ impl Ahead {
                     Err(_) => return Piece::Memory,
                 }
                 self.skip(count);
-                if line.len() == LINE_LIMIT { Piece::TooLong } else { Piece::More }
+                if line.len() == LINE_LIMIT {
+                    Piece::TooLong
+                } else {
+                    Piece::More
+                }
             }
         }
     }

@@ -4,11 +4,10 @@ ghost use Rattle.std.specs.Prelude.{◌≡◌, ◌++◌, ◌∷◌, [], OnOk, co
 ghost use Rattle.cdni_base.specs.Rule.{number_or_dash, rule_status, rule_text};
 ghost use Rattle.http_node.specs.Answer.{numbered, endpoint_text, plan_text, answer_line};
 
+use crate::call::Reply;
 use cdni_base::{Endpoint, Rule};
 use itoa::Buffer;
 use std::alloc::AllocError;
-
-use crate::call::Reply;
 
 // adds the answer line of the reply
 #[tactic(auto, unfolding(crate::specs::Answer::answer_line))]
@@ -17,7 +16,11 @@ pub(crate) fn put_answer(out: &mut Vec<u8>, reply: &Reply) -> Result<(), AllocEr
 {
     match reply {
         Reply::Denied { delivery, rule } => put_denied(out, *delivery, rule),
-        Reply::Miss { delivery, fetch, plan } => put_miss(out, *delivery, *fetch, plan.as_slice()),
+        Reply::Miss {
+            delivery,
+            fetch,
+            plan,
+        } => put_miss(out, *delivery, *fetch, plan.as_slice()),
         Reply::Full { count } => put_numbered(out, b"full", *count),
         Reply::NotOpen { number } => put_numbered(out, b"not-open", *number),
         Reply::Due { refresh } => put_numbered(out, b"due", *refresh),
@@ -68,7 +71,11 @@ fn put_rule(out: &mut Vec<u8>, rule: &Rule) -> Result<(), AllocError>
     match rule {
         Rule::Method => put(out, b"method"),
         Rule::NoMetadata => put(out, b"no-metadata"),
-        Rule::MetadataInvalid { trigger } => put_word_number(out, b"metadata-invalid ", Some(*trigger)),
+        Rule::MetadataInvalid { trigger } => put_word_number(
+            out,
+            b"metadata-invalid ",
+            Some(*trigger),
+        ),
         Rule::NoHost => put(out, b"no-host"),
         Rule::Unenforceable { kind } => put_two(out, b"unenforceable ", kind.bytes()),
         Rule::Location { rule } => put_word_number(out, b"location ", rule.map(|n| n as u64)),
@@ -95,7 +102,12 @@ fn put_word_number(out: &mut Vec<u8>, word: &[u8], number: Option<u64>) -> Resul
     }
 }
 
-fn put_miss(out: &mut Vec<u8>, delivery: u64, fetch: u64, plan: &[Endpoint]) -> Result<(), AllocError>
+fn put_miss(
+    out: &mut Vec<u8>,
+    delivery: u64,
+    fetch: u64,
+    plan: &[Endpoint],
+) -> Result<(), AllocError>
     ensures { OnOk result (out.new.items ≡ out.old.items ++ (codes "miss " ++ decimal delivery ++ 32 ∷ [] ++ decimal fetch ++ plan_text plan.now ++ 10 ∷ [])) }
 {
     put(out, b"miss ")?;

@@ -6,10 +6,9 @@ ghost use Rattle.edge_base.specs.Causes.{Rose};
 ghost use Rattle.http_node.specs.Script.{answers};
 ghost use Rattle.http_node.specs.Batch.{is_replay, Replays};
 
+use crate::replaying::{ReplayEnd, replay};
 use edge_base::{Sink, Source, Status};
 use std::alloc::Global;
-
-use crate::replaying::{ReplayEnd, replay};
 
 /// Runs the command that `words`, those after the program's name, are: `replay` reads a script from `input`
 /// and writes its answers to `output`. It always returns. Nothing is written to `notes` yet.
@@ -17,7 +16,13 @@ use crate::replaying::{ReplayEnd, replay};
 /// The status is `Done` where the input was read to its end; `Script` where a line was read that is no script line
 /// and every answer before it was written; `Usage` exactly where the words are no command; `ReadFault` and
 /// `WriteFault` only where the input's, the output's count of faults rose; and `Memory` for want of memory.
-pub fn batch_main<S: Source, K: Sink, E: Sink>(alloc: Global, words: &[String], input: &mut S, output: &mut K, notes: &mut E) -> Status
+pub fn batch_main<S: Source, K: Sink, E: Sink>(
+    alloc: Global,
+    words: &[String],
+    input: &mut S,
+    output: &mut K,
+    notes: &mut E,
+) -> Status
     ensures usage { (result ≡ Status.Usage) ↔ (is_replay words.now ≡ false) }
     ensures unread { result ≡ Status.Usage → Keeps (S.left input.old) (S.left input.new) }
     ensures unwritten { result ≡ Status.Usage → Keeps (K.held output.old) (K.held output.new) }

@@ -8,32 +8,60 @@ use metadata_objects::HostIndex;
 #[derive(Drop)]
 pub enum Call {
     /// A refresh of the metadata would begin.
-    RefreshBegin { moment: Moment },
+    RefreshBegin {
+        moment: Moment,
+    },
     /// A refresh ended, with what was gathered, if it could be read.
-    RefreshEnd { refresh: u64, index: Option<HostIndex>, moment: Moment },
+    RefreshEnd {
+        refresh: u64,
+        index: Option<HostIndex>,
+        moment: Moment,
+    },
     /// A client's request would be delivered.
-    Admit { asked: Asked, moment: Moment },
+    Admit {
+        asked: Asked,
+        moment: Moment,
+    },
 }
 
 /// What a call is answered. Refreshes, deliveries and fetches are numbered from 1.
 #[derive(Drop)]
 pub enum Reply {
     /// This delivery is denied, by the first rule that forbids it.
-    Denied { delivery: u64, rule: Rule },
+    Denied {
+        delivery: u64,
+        rule: Rule,
+    },
     /// This delivery waits for this fetch, from these endpoints in order.
-    Miss { delivery: u64, fetch: u64, plan: EndpointList },
+    Miss {
+        delivery: u64,
+        fetch: u64,
+        plan: EndpointList,
+    },
     /// A limit is reached.
-    Full { count: u64 },
+    Full {
+        count: u64,
+    },
     /// The refresh was not begun by this pass, or it has ended.
-    NotOpen { number: u64 },
+    NotOpen {
+        number: u64,
+    },
     /// This refresh has begun.
-    Due { refresh: u64 },
+    Due {
+        refresh: u64,
+    },
     /// No refresh is due before this moment.
-    NotDue { next: Moment },
+    NotDue {
+        next: Moment,
+    },
     /// The metadata is installed, the so manieth.
-    Installed { generation: u64 },
+    Installed {
+        generation: u64,
+    },
     /// The metadata of this later refresh is installed already.
-    Older { refresh: u64 },
+    Older {
+        refresh: u64,
+    },
     /// The refresh has brought nothing.
     Failed,
 }

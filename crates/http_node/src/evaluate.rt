@@ -19,7 +19,11 @@ pub enum Judged {
 
 // the plan of the delivery, or the first rule that forbids it
 #[tactic(auto, unfolding(crate::specs::Evaluation::judged))]
-pub(crate) fn judge(alloc: Global, index: Option<&HostIndex>, asked: &Asked) -> Result<Judged, AllocError>
+pub(crate) fn judge(
+    alloc: Global,
+    index: Option<&HostIndex>,
+    asked: &Asked,
+) -> Result<Judged, AllocError>
     ensures { IfOk result (λ answer. answer ≡ judged (option_map (λ i. i.now) index.entry) asked.now) }
 {
     if !asked.method.is(b"GET") && !asked.method.is(b"HEAD") {
@@ -39,10 +43,16 @@ fn judge_objects(alloc: Global, objects: &[Generic]) -> Result<Judged, AllocErro
     ensures { IfOk result (λ answer. answer ≡ judged_enforced objects.now (unenforceable objects.now)) }
 {
     if let Some(object) = first_unenforceable(objects) {
-        return Ok(Judged::Forbidden(Rule::Unenforceable { kind: object.kind.clone()? }));
+        return Ok(Judged::Forbidden(Rule::Unenforceable {
+            kind: object.kind.clone()?,
+        }));
     }
     let plan = plan(alloc, objects)?;
-    Ok(if plan.len() == 0 { Judged::Forbidden(Rule::NoSource) } else { Judged::Allowed(plan) })
+    Ok(if plan.len() == 0 {
+        Judged::Forbidden(Rule::NoSource)
+    } else {
+        Judged::Allowed(plan)
+    })
 }
 
 // the metadata of the first host that matches
@@ -77,7 +87,10 @@ fn first_unenforceable(objects: &[Generic]) -> Option<&Generic>
 {
     'objects: for i in 0..objects.len() {
         let object = &objects[i];
-        if object.mandatory && !is_understood(&object.held) && !has_kind(&objects[..i], object.kind.bytes()) {
+        if object.mandatory
+            && !is_understood(&object.held)
+            && !has_kind(&objects[..i], object.kind.bytes())
+        {
             return Some(object);
         }
     }

@@ -7,15 +7,14 @@ ghost use Rattle.http_node.specs.Script.{is_next, form_after, fits};
 ghost use Rattle.http_node.specs.Batch.{Ends};
 ghost use Rattle.http_node.specs.Stepped.{StepsTo};
 
-use cdni_base::Limits;
-use edge_base::{Sink, Source, write_counted};
-use std::alloc::Global;
-
 use crate::ahead::{Ahead, LineRead};
 use crate::answer::put_answer;
 use crate::call::Call;
 use crate::script::read_entry;
 use crate::step::Core;
+use cdni_base::Limits;
+use edge_base::{Sink, Source, write_counted};
+use std::alloc::Global;
 
 /// What the next line of a script must be.
 #[derive(Clone, Copy, Debug, PartialEq, Eq)]
@@ -113,15 +112,35 @@ fn may_follow(form: Form, pass: u32, call: &Call) -> bool
 {
     match (form, call) {
         (Form::Opening, Call::RefreshBegin { moment: _ }) => true,
-        (Form::Document(opener), Call::RefreshEnd { refresh, index: _, moment: _ }) => opener == pass && *refresh == 1,
-        (Form::Requests, Call::Admit { asked: _, moment: _ }) => true,
+        (
+            Form::Document(opener),
+            Call::RefreshEnd {
+                refresh,
+                index: _,
+                moment: _,
+            },
+        ) => opener == pass && *refresh == 1,
+        (
+            Form::Requests,
+            Call::Admit {
+                asked: _,
+                moment: _,
+            },
+        ) => true,
         _ => false,
     }
 }
 
 // answers the line that begins at this place of the script; the answer takes the place of what was there
 #[tactic(auto, unfolding(crate::specs::Script::next_entry))]
-fn answer_one(alloc: Global, core: &mut Core, form: Form, at: u64, line: &[u8], answer: &mut Vec<u8>) -> Stepped
+fn answer_one(
+    alloc: Global,
+    core: &mut Core,
+    form: Form,
+    at: u64,
+    line: &[u8],
+    answer: &mut Vec<u8>,
+) -> Stepped
     ensures { StepsTo core.old core.new form at line.now answer.new.items result }
 {
     if !is_in_limits(at, line.len()) {

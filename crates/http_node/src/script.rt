@@ -7,13 +7,12 @@ ghost use Rattle.cdni_base.specs.Endpoint.{endpoint_of};
 ghost use Rattle.metadata_objects.specs.Host.{host_index_of_text};
 ghost use Rattle.http_node.specs.Grammar.{number_below, is_path_byte, target_after, target_of, is_url, are_urls, is_token_byte, is_method, protocol_of, is_octet, is_address, is_network, is_country, asked_of, get_of, meta_of, call_of, entry_of};
 
+use crate::call::Call;
 use cdni_base::{Asked, Endpoint, EndpointFault, Protocol, Target, Text};
 use edge_base::Moment;
 use listing::{cut_at, read_decimal};
 use metadata_objects::{HostIndex, MetaFault};
 use std::alloc::{AllocError, Global};
-
-use crate::call::Call;
 
 // the pass and the call of a line, if it is in the grammar
 #[tactic(auto, unfolding(crate::specs::Grammar::entry_of))]
@@ -86,7 +85,11 @@ fn read_meta(alloc: Global, moment: Moment, text: &[u8]) -> Result<Option<Call>,
         return Ok(None);
     }
     let index = read_index(alloc, json)?;
-    Ok(Some(Call::RefreshEnd { refresh, index, moment }))
+    Ok(Some(Call::RefreshEnd {
+        refresh,
+        index,
+        moment,
+    }))
 }
 
 // the HostIndex of a text, if it is one
@@ -130,7 +133,12 @@ fn read_get(alloc: Global, moment: Moment, text: &[u8]) -> Result<Option<Call>, 
 }
 
 #[tactic(auto, unfolding(crate::specs::Grammar::asked_of))]
-fn read_asked(alloc: Global, method: &[u8], protocol: &[u8], url: &[u8]) -> Result<Option<Asked>, AllocError>
+fn read_asked(
+    alloc: Global,
+    method: &[u8],
+    protocol: &[u8],
+    url: &[u8],
+) -> Result<Option<Asked>, AllocError>
     ensures { IfOk result (λ found. found ≡ asked_of method.now protocol.now url.now) }
 {
     if !is_method(method) {
@@ -142,7 +150,11 @@ fn read_asked(alloc: Global, method: &[u8], protocol: &[u8], url: &[u8]) -> Resu
     let Some(target) = read_target(alloc, url)? else {
         return Ok(None);
     };
-    Ok(Some(Asked { method: Text::of(alloc, method)?, protocol, target }))
+    Ok(Some(Asked {
+        method: Text::of(alloc, method)?,
+        protocol,
+        target,
+    }))
 }
 
 #[tactic(auto, unfolding(crate::specs::Grammar::is_method))]
@@ -171,7 +183,11 @@ fn read_protocol(text: &[u8]) -> Option<Protocol>
     if text == b"http/1.1".as_slice() {
         return Some(Protocol::Http);
     }
-    if text == b"https/1.1".as_slice() { Some(Protocol::Https) } else { None }
+    if text == b"https/1.1".as_slice() {
+        Some(Protocol::Https)
+    } else {
+        None
+    }
 }
 
 // whether these are four numbers from 0 to 255, joined by points
@@ -201,14 +217,18 @@ fn is_octet(text: &[u8]) -> bool
 fn is_network(text: &[u8]) -> bool
     ensures { result ≡ is_network text.now }
 {
-    text == b"-".as_slice() || (text.len() >= 2 && &text[..2] == b"as".as_slice() && read_below(4294967296, &text[2..]).is_some())
+    text == b"-".as_slice()
+        || (text.len() >= 2
+            && &text[..2] == b"as".as_slice()
+            && read_below(4294967296, &text[2..]).is_some())
 }
 
 #[tactic(auto, unfolding(crate::specs::Grammar::is_country))]
 fn is_country(text: &[u8]) -> bool
     ensures { result ≡ is_country text.now }
 {
-    text == b"-".as_slice() || (text.len() == 2 && text.iter().all(|byte| byte.is_ascii_lowercase()))
+    text == b"-".as_slice()
+        || (text.len() == 2 && text.iter().all(|byte| byte.is_ascii_lowercase()))
 }
 
 // whether these are URLs joined by bars
@@ -256,7 +276,12 @@ fn read_target_after(alloc: Global, rest: &[u8]) -> Result<Option<Target>, Alloc
     if !is_path(path) {
         return Ok(None);
     }
-    Ok(Some(Target { host: endpoint.host, port: endpoint.port.unwrap_or(80), path: Text::of(alloc, path)?, query: None }))
+    Ok(Some(Target {
+        host: endpoint.host,
+        port: endpoint.port.unwrap_or(80),
+        path: Text::of(alloc, path)?,
+        query: None,
+    }))
 }
 
 fn slash_place(text: &[u8]) -> Option<usize>

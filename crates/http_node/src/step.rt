@@ -4,14 +4,13 @@ ghost use Rattle.std.specs.Prelude.{◌≡◌, ◌+◌, ◌<◌, ◌≤◌, leng
 ghost use Rattle.std.specs.List.{find, remove};
 ghost use Rattle.http_node.specs.History.{is_open, without};
 
+use crate::call::{Call, OpenRefresh, Reply};
+use crate::evaluate::{Judged, judge};
 use cdni_base::{Asked, Limits};
 use edge_base::Moment;
 use metadata_objects::HostIndex;
 use std::alloc::{AllocError, Global};
 use std::marker::Model;
-
-use crate::call::{Call, OpenRefresh, Reply};
-use crate::evaluate::{Judged, judge};
 
 #[derive(Drop)]
 pub(crate) struct Installed {
@@ -36,9 +35,20 @@ pub struct Core {
 impl Model for Core {
     ghost use Rattle.std.specs.Prelude.{◌+◌, ◌≤◌, length, option_map};
     ghost use Rattle.http_node.specs.History.{World};
+
     ghost Value = { World };
-    ghost view = { λ c. record { limits = c.limits; refreshed = c.refreshed; refreshes = c.refreshes.items; installed = option_map (λ i. record { index = i.index; refresh = i.refresh; moment = i.moment }) c.installed;
-        generation = c.generation; delivered = c.delivered; fetched = c.fetched; opened = c.opened } };
+
+    ghost view = { λ c. record {
+      limits = c.limits;
+      refreshed = c.refreshed;
+      refreshes = c.refreshes.items;
+      installed = option_map (λ i. record { index = i.index; refresh = i.refresh; moment = i.moment }) c.installed;
+      generation = c.generation;
+      delivered = c.delivered;
+      fetched = c.fetched;
+      opened = c.opened;
+    } };
+
     ghost invariant = { λ c. (c.refreshed + c.delivered ≤ c.opened) × (c.fetched ≤ c.delivered) × (c.generation + length c.refreshes.items ≤ c.refreshed) × (c.opened ≤ c.limits.opened) };
 }
 
@@ -49,7 +59,16 @@ impl Core {
     pub fn new(alloc: Global, limits: Limits) -> Core
         ensures { result ≡ nothing limits }
     {
-        Core { limits, refreshed: 0, refreshes: Vec::new(alloc), installed: None, generation: 0, delivered: 0, fetched: 0, opened: 0 }
+        Core {
+            limits,
+            refreshed: 0,
+            refreshes: Vec::new(alloc),
+            installed: None,
+            generation: 0,
+            delivered: 0,
+            fetched: 0,
+            opened: 0,
+        }
     }
 
     /// Takes in the call of a pass.
@@ -64,7 +83,11 @@ impl Core {
     {
         match call {
             Call::RefreshBegin { moment } => self.refresh_begin(pass, moment),
-            Call::RefreshEnd { refresh, index, moment: _ } => Ok(self.refresh_end(pass, refresh, index)),
+            Call::RefreshEnd {
+                refresh,
+                index,
+                moment: _,
+            } => Ok(self.refresh_end(pass, refresh, index)),
             Call::Admit { asked, moment: _ } => self.admit(alloc, &asked),
         }
     }
@@ -81,7 +104,11 @@ impl Core {
             return Ok(Reply::Full { count: self.opened });
         }
         let refresh = self.refreshed + 1;
-        self.refreshes.push(OpenRefresh { refresh, pass, moment })?;
+        self.refreshes.push(OpenRefresh {
+            refresh,
+            pass,
+            moment,
+        })?;
         self.refreshed = refresh;
         self.opened += 1;
         Ok(Reply::Due { refresh })
@@ -95,7 +122,11 @@ impl Core {
             return None;
         };
         let next = installed.moment as u128 + self.limits.period as u128;
-        if (moment as u128) < next { Some(installed.moment.saturating_add(self.limits.period)) } else { None }
+        if (moment as u128) < next {
+            Some(installed.moment.saturating_add(self.limits.period))
+        } else {
+            None
+        }
     }
 
     fn refresh_end(&mut self, pass: u32, refresh: u64, index: Option<HostIndex>) -> Reply
@@ -132,9 +163,15 @@ impl Core {
         if let Some(refresh) = self.newer(refresh) {
             return Reply::Older { refresh };
         }
-        self.installed = Some(Installed { index, refresh, moment });
+        self.installed = Some(Installed {
+            index,
+            refresh,
+            moment,
+        });
         self.generation += 1;
-        Reply::Installed { generation: self.generation }
+        Reply::Installed {
+            generation: self.generation,
+        }
     }
 
     // the installed refresh, where its number is greater
@@ -153,19 +190,29 @@ impl Core {
         ensures err { OnErr result (self.new ≡ self.old) }
     {
         if self.delivered == self.limits.rows {
-            return Ok(Reply::Full { count: self.delivered });
+            return Ok(Reply::Full {
+                count: self.delivered,
+            });
         }
         if self.opened == self.limits.opened {
             return Ok(Reply::Full { count: self.opened });
         }
-        let answer = judge(alloc, self.installed.as_ref().map(|installed| &installed.index), asked)?;
+        let answer = judge(
+            alloc,
+            self.installed.as_ref().map(|installed| &installed.index),
+            asked,
+        )?;
         let delivery = self.delivered + 1;
         self.delivered = delivery;
         self.opened += 1;
         Ok(match answer {
             Judged::Allowed(plan) => {
                 self.fetched += 1;
-                Reply::Miss { delivery, fetch: self.fetched, plan }
+                Reply::Miss {
+                    delivery,
+                    fetch: self.fetched,
+                    plan,
+                }
             }
             Judged::Forbidden(rule) => Reply::Denied { delivery, rule },
         })

@@ -1,9 +1,9 @@
 -- Fields of a JSON value: each reading is the value, or the first fault with its place and cause.
 use Rattle.std.specs.Prelude.{◌≡◌, ℕ, Bool, List, None, Some, Ok, Err, nat_le, if◌then◌else◌}
-use Rattle.std.specs.Option.{option_map, option_and_then}
+use Rattle.std.specs.Option.{option_and_then}
 use Rattle.std.specs.declared.option.Option.{Option}
 use Rattle.std.specs.declared.result.Result.{Result}
-use Rattle.serde_json.specs.Data.{Data, Items, Members}
+use Rattle.serde_json.specs.Data.{Data, Items}
 use Rattle.serde_json.specs.Find.{get_member, as_object, as_str, as_array, as_bool, as_number, as_u64}
 use Rattle.json_read.specs.declared.fault.FieldCause.{FieldCause}
 use Rattle.json_read.specs.declared.fault.FieldCause.TheVariants.{Missing, WrongKind, OutOfRange}

@@ -1,5 +1,5 @@
 -- JSON pointers (RFC 6901).
-use Rattle.std.specs.Prelude.{ℕ, Bool, not, List, [], ◌∷◌, ◌++◌, ◌==◌, ◌&&◌, IsTrue, decimal}
+use Rattle.std.specs.Prelude.{ℕ, not, List, ◌∷◌, ◌++◌, ◌==◌, ◌&&◌, IsTrue, decimal}
 use Rattle.std.specs.List.{list_all}
 
 -- a member's name that stands in a pointer as it is: without `/` and `~`

@@ -1,8 +1,7 @@
 //! Faults of a JSON text and of its fields.
 
-use std::alloc::AllocError;
-
 use crate::path::JsonPath;
+use std::alloc::AllocError;
 
 /// What is wrong with a field.
 #[derive(Clone, Copy, Debug, PartialEq, Eq)]
@@ -34,6 +33,7 @@ pub enum JsonFault {
 impl From<AllocError> for JsonFault {
     ghost use Rattle.std.specs.Prelude.{◌≡◌};
     ghost use Rattle.json_read.specs.declared.fault.JsonFault.TheVariants as json_fault;
+
     ghost from_gives = { λ _ fault. fault ≡ json_fault.Memory };
 
     fn from(_error: AllocError) -> JsonFault {

@@ -5,11 +5,10 @@ ghost use Rattle.serde_json.specs.View.{view, items_view};
 ghost use Rattle.json_read.specs.Path.{IsName};
 ghost use Rattle.json_read.specs.Field.{Gives, IsFaultAt, needed, looked_up, text_of, items_of, flag_of, whole_of};
 
-use serde_json::Value;
-use std::alloc::Global;
-
 use crate::fault::{FieldCause, FieldFault, JsonFault};
 use crate::path::JsonPath;
+use serde_json::Value;
+use std::alloc::Global;
 
 // the fault at this place
 fn fault_at(alloc: Global, path: &JsonPath, cause: FieldCause) -> JsonFault
@@ -25,7 +24,12 @@ fn fault_at(alloc: Global, path: &JsonPath, cause: FieldCause) -> JsonFault
 ///
 /// # Errors
 /// `WrongKind` at `path` where the value is no object, `Missing` at the member where there is none, or want of memory.
-pub fn need<'a>(alloc: Global, value: &'a Value, path: &JsonPath, name: &str) -> Result<&'a Value, JsonFault>
+pub fn need<'a>(
+    alloc: Global,
+    value: &'a Value,
+    path: &JsonPath,
+    name: &str,
+) -> Result<&'a Value, JsonFault>
     requires { IsName name.now }
     ensures { Gives (λ v. view v.now) result (needed path.now name.now (view value.now)) }
 {
@@ -39,7 +43,12 @@ pub fn need<'a>(alloc: Global, value: &'a Value, path: &JsonPath, name: &str) ->
 ///
 /// # Errors
 /// `WrongKind` at `path` where the value is no object, or want of memory.
-pub fn maybe<'a>(alloc: Global, value: &'a Value, path: &JsonPath, name: &str) -> Result<Option<&'a Value>, JsonFault>
+pub fn maybe<'a>(
+    alloc: Global,
+    value: &'a Value,
+    path: &JsonPath,
+    name: &str,
+) -> Result<Option<&'a Value>, JsonFault>
     requires { IsName name.now }
     ensures { Gives (λ found. option_map (λ v. view v.now) found) result (looked_up path.now name.now (view value.now)) }
 {
@@ -66,7 +75,11 @@ pub fn text_at(alloc: Global, value: &Value, path: &JsonPath) -> Result<String, 
 ///
 /// # Errors
 /// `WrongKind` at `path` where the value is no list, or want of memory.
-pub fn list_at<'a>(alloc: Global, value: &'a Value, path: &JsonPath) -> Result<&'a [Value], JsonFault>
+pub fn list_at<'a>(
+    alloc: Global,
+    value: &'a Value,
+    path: &JsonPath,
+) -> Result<&'a [Value], JsonFault>
     ensures { Gives (λ items. items_view items.now) result (items_of path.now (view value.now)) }
 {
     match value.as_array() {

@@ -14,7 +14,9 @@ pub struct JsonPath {
 
 impl Model for JsonPath {
     ghost use Rattle.std.specs.Prelude.{ℕ, List};
+
     ghost Value = { List ℕ };
+
     ghost view = { λ p. p.pointer.items };
 }
 
@@ -23,7 +25,9 @@ impl JsonPath {
     pub fn root(alloc: Global) -> JsonPath
         ensures { result ≡ [] }
     {
-        JsonPath { pointer: Vec::new(alloc) }
+        JsonPath {
+            pointer: Vec::new(alloc),
+        }
     }
 
     /// The pointer of the member `name` of this object.
@@ -62,7 +66,9 @@ impl JsonPath {
     pub fn copy(&self, alloc: Global) -> Result<JsonPath, AllocError>
         ensures { IfOk result (λ p. p ≡ self.now) }
     {
-        Ok(JsonPath { pointer: Vec::from_slice(alloc, &self.pointer)? })
+        Ok(JsonPath {
+            pointer: Vec::from_slice(alloc, &self.pointer)?,
+        })
     }
 
     // this pointer, `/` and the token

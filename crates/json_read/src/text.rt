@@ -2,10 +2,9 @@
 
 ghost use Rattle.json_read.specs.Text.{Parses};
 
+use crate::fault::ParseFault;
 use serde_json::Value;
 use std::alloc::Global;
-
-use crate::fault::ParseFault;
 
 /// Reads a JSON text (RFC 8259) of at most 127 levels of lists and objects.
 ///

@@ -1,13 +1,11 @@
 -- What decimal digits write is what `decimal` writes again.
-use Rattle.std.proofs.Common.{◌≡◌, ℕ, ◌+◌, ◌-◌, ◌*◌, ◌^◌, ◌<◌, ◌≤◌, Bool, true, false, cond, not, ◌&&◌, List, [], ◌∷◌, length, drop, get_or, refl, rules, sym, ◌∙◌, ap, subst, arith, inl, inr, lit<, None, Some, IfSome, decimal, nat_lt, nat_eq, add-one, drop-cons}
+use Rattle.std.proofs.Common.{◌≡◌, ℕ, ◌+◌, ◌-◌, ◌*◌, ◌^◌, ◌<◌, ◌≤◌, Bool, true, false, cond, List, [], ◌∷◌, length, get_or, refl, rules, sym, ◌∙◌, ap, arith, inl, inr, lit<, None, Some, IfSome, decimal}
 use Rattle.std.specs.declared.option.Option.{Option}
-use Rattle.std.specs.Char.{is_ascii_digit}
 use Rattle.std.specs.Str.{all_ascii_digits}
-use Rattle.std.proofs.lemmas.Bool.{and_parts, and_from, ltb-true, lt-ltb, cases_lt, both_ways, not_from_false, and_left, ne_eqb, not-true, eq-eqb, cond-true, cond-false}
-use Rattle.std.proofs.lemmas.Bool.Decides.{nat_tests}
+use Rattle.std.proofs.lemmas.Bool.{and_parts, and_from, ltb-true, lt-ltb, cases_lt, both_ways, not_from_false, and_left, ne_eqb, not-true, eq-eqb, cond-true}
 use Rattle.std.proofs.lemmas.Str.Parse.{IsNumeralModel, numerals_by_fold}
 use Rattle.std.proofs.lemmas.Fmt.{digits_decimal, digits_value-decimal, decimal-digits_value, decimal_nonempty, first_decimal, decimal_digit}
-use Rattle.listing.specs.Number.{number_after, number_of, number_of_digits, is_unpadded}
+use Rattle.listing.specs.Number.{number_after, number_of, is_unpadded}
 
 -- the digits' number, with no limit
 abbrev folded : ℕ → List ℕ → ℕ
@@ -56,9 +54,10 @@ decimal_of_number text n is =
 
 unpadded_decimal : (n : ℕ) → n < 2 ^ 64 → is_unpadded (decimal n) ≡ true
 unpadded_decimal n small = elim (cases_lt 0 n) [
-    inl more ↦ let not_zero : get_or (decimal n) 0 0 ≡ 48 → ⊥ = λ is. omega (arith, first_decimal n more small, is) in
-        and_from _ _ (lt-ltb _ _ (decimal_nonempty n small)) (not_from_false _ (and_left _ _ (ne_eqb _ _ not_zero)))
-  | inr none ↦ let zero_is : n ≡ 0 = omega arith in rw (zero_is, decimal_digit 0 (lit< tt)) refl ]
+  | inl more ↦ let not_zero : get_or (decimal n) 0 0 ≡ 48 → ⊥ = λ is. omega (arith, first_decimal n more small, is) in
+      and_from _ _ (lt-ltb _ _ (decimal_nonempty n small)) (not_from_false _ (and_left _ _ (ne_eqb _ _ not_zero)))
+  | inr none ↦ let zero_is : n ≡ 0 = omega arith in rw (zero_is, decimal_digit 0 (lit< tt)) refl
+]
 
 -- what is written of a number is read as it
 number_of_decimal : (n : ℕ) → n < 2 ^ 64 → number_of (decimal n) ≡ Some n

@@ -13,7 +13,9 @@ pub struct Listing<T> {
 
 impl<T> Model for Listing<T> {
     ghost use Rattle.std.specs.Prelude.{List};
+
     ghost Value = { List T };
+
     ghost view = { λ l. l.items.items };
 }
 
@@ -22,7 +24,9 @@ impl<T> Listing<T> {
     pub fn new(alloc: Global) -> Listing<T>
         ensures { result ≡ [] }
     {
-        Listing { items: Vec::new(alloc) }
+        Listing {
+            items: Vec::new(alloc),
+        }
     }
 
     /// How many items there are.

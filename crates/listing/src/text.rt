@@ -13,7 +13,9 @@ pub struct Text {
 
 impl Model for Text {
     ghost use Rattle.std.specs.Prelude.{ℕ, List};
+
     ghost Value = { List ℕ };
+
     ghost view = { λ t. t.bytes.items };
 }
 
@@ -25,7 +27,9 @@ impl Text {
     pub fn of(alloc: Global, bytes: &[u8]) -> Result<Text, AllocError>
         ensures { IfOk result (λ t. t ≡ bytes.now) }
     {
-        Ok(Text { bytes: Vec::from_slice(alloc, bytes)? })
+        Ok(Text {
+            bytes: Vec::from_slice(alloc, bytes)?,
+        })
     }
 
     /// The text of these bytes, which are moved and not copied.

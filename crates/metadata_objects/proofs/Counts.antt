@@ -1,6 +1,5 @@
 -- The endpoints of the sources so far, against those of all.
-use Rattle.std.proofs.Common.{◌≡◌, ℕ, ◌+◌, ◌<◌, ◌≤◌, List, length, take, get_or, refl, sym, ap, arith, nat_le}
-use Rattle.std.specs.List.{sum_by}
+use Rattle.std.proofs.Common.{◌≡◌, ℕ, ◌+◌, ◌<◌, List, length, take, get_or, sym, ap, arith, nat_le}
 use Rattle.std.proofs.lemmas.Bool.{lt-leb}
 use Rattle.std.proofs.lemmas.List.Sums.{sum_by_more_le}
 use Rattle.cdni_base.specs.declared.target.SourceItem.{SourceItem}

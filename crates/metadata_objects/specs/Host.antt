@@ -3,7 +3,6 @@ use Rattle.std.specs.Prelude.{ℕ, List, [], codes, length, None, Some, Ok, Err,
 use Rattle.std.specs.Option.{option_map_or, is_some}
 use Rattle.std.specs.Result.{result_ok}
 use Rattle.std.specs.declared.option.Option.{Option}
-use Rattle.std.specs.declared.result.Result.{Result}
 use Rattle.serde_json.specs.Data.{Data, Items}
 use Rattle.serde_json.specs.Find.{get}
 use Rattle.cdni_base.specs.Endpoint.{endpoint_of}
@@ -12,7 +11,6 @@ use Rattle.json_read.specs.Path.{child_of}
 use Rattle.json_read.specs.Text.{json_of}
 use Rattle.metadata_objects.specs.Reading.{Reading, counted, no_link, needed_text, in_range, field, all_of}
 use Rattle.metadata_objects.specs.Generic.{generics_of}
-use Rattle.metadata_objects.specs.declared.fault.MetaFault.{MetaFault}
 use Rattle.metadata_objects.specs.declared.fault.MetaFault.TheVariants as meta_fault
 use Rattle.metadata_objects.specs.declared.generic.Generic.{Generic}
 use Rattle.metadata_objects.specs.declared.host.HostIndex.{HostIndex}

@@ -1,11 +1,11 @@
 -- Reading a metadata object: the value, or the first fault in the order of reading.
-use Rattle.std.specs.Prelude.{◌≡◌, ℕ, ◌+◌, Bool, List, [], ◌∷◌, ◌++◌, codes, None, Some, Ok, Err, nat_lt, if◌then◌else◌}
+use Rattle.std.specs.Prelude.{◌≡◌, ℕ, ◌+◌, Bool, List, [], ◌∷◌, codes, None, Some, Ok, Err, nat_lt, if◌then◌else◌}
 use Rattle.std.specs.Option.{is_some}
 use Rattle.std.specs.declared.option.Option.{Option}
 use Rattle.std.specs.declared.result.Result.{Result}
 use Rattle.serde_json.specs.Data.{Data, Items, no_items, item}
 use Rattle.serde_json.specs.Find.{get}
-use Rattle.json_read.specs.Field.{◌>>=◌, or_fault, looked_up, needed, text_of, items_of, flag_of}
+use Rattle.json_read.specs.Field.{◌>>=◌, or_fault, looked_up, needed, text_of, flag_of}
 use Rattle.json_read.specs.Path.{child_of, item_of}
 use Rattle.json_read.specs.declared.fault.FieldCause.TheVariants.{OutOfRange}
 use Rattle.json_read.specs.declared.fault.FieldFault.{FieldFault}

@@ -1,8 +1,7 @@
 //! Why a metadata document was not read.
 
-use std::alloc::AllocError;
-
 use json_read::{FieldFault, JsonFault, JsonPath};
+use std::alloc::AllocError;
 
 /// The first fault of a metadata document, in the order of reading.
 #[derive(Drop)]
@@ -24,6 +23,7 @@ pub enum MetaFault {
 impl From<AllocError> for MetaFault {
     ghost use Rattle.std.specs.Prelude.{◌≡◌};
     ghost use Rattle.metadata_objects.specs.declared.fault.MetaFault.TheVariants as meta_fault;
+
     ghost from_gives = { λ _ fault. fault ≡ meta_fault.Memory };
 
     fn from(_error: AllocError) -> MetaFault {
@@ -34,6 +34,7 @@ impl From<AllocError> for MetaFault {
 impl From<JsonFault> for MetaFault {
     ghost use Rattle.std.specs.Prelude.{◌≡◌};
     ghost use Rattle.metadata_objects.specs.Reading.{fault_of};
+
     ghost from_gives = { λ json_fault fault. fault ≡ fault_of json_fault };
 
     fn from(fault: JsonFault) -> MetaFault {

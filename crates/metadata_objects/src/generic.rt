@@ -5,13 +5,12 @@ ghost use Rattle.serde_json.specs.View.{view, items_view};
 ghost use Rattle.metadata_objects.specs.Reading.{Gives};
 ghost use Rattle.metadata_objects.specs.Generic.{kind_of, understood, held_of, generic_of, generics_of};
 
-use cdni_base::{Listing, SourceItemList, Text};
-use json_read::{JsonPath, Value, need};
-use std::alloc::{AllocError, Global};
-
 use crate::fault::MetaFault;
 use crate::object::{flag, one_more, out_of_range, refuse_link, text};
 use crate::source::sources_of;
+use cdni_base::{Listing, SourceItemList, Text};
+use json_read::{JsonPath, Value, need};
+use std::alloc::{AllocError, Global};
 
 /// A metadata object of some type.
 #[derive(Drop)]
@@ -39,7 +38,12 @@ pub enum Held {
 pub type GenericList = Listing<Generic>;
 
 // the objects of the list at `path`, after `count` objects
-pub(crate) fn generics_at(alloc: Global, items: &[Value], path: &JsonPath, count: u32) -> Result<(GenericList, u32), MetaFault>
+pub(crate) fn generics_at(
+    alloc: Global,
+    items: &[Value],
+    path: &JsonPath,
+    count: u32,
+) -> Result<(GenericList, u32), MetaFault>
     ensures { Gives (λ x. (x.0, x.1)) result (generics_of path.now count (items_view items.now)) }
 {
     let mut list = Listing::new(alloc);
@@ -55,7 +59,12 @@ pub(crate) fn generics_at(alloc: Global, items: &[Value], path: &JsonPath, count
 
 // the object at `path`, after `count` objects
 #[tactic(auto, unfolding(crate::specs::Generic::generic_of))]
-fn generic_at(alloc: Global, value: &Value, path: &JsonPath, count: u32) -> Result<(Generic, u32), MetaFault>
+fn generic_at(
+    alloc: Global,
+    value: &Value,
+    path: &JsonPath,
+    count: u32,
+) -> Result<(Generic, u32), MetaFault>
     ensures { Gives (λ x. (x.0, x.1)) result (generic_of path.now count (view value.now)) }
 {
     let count = one_more(count)?;
@@ -69,7 +78,15 @@ fn generic_at(alloc: Global, value: &Value, path: &JsonPath, count: u32) -> Resu
     let redistribute = flag(alloc, value, path, "safe-to-redistribute", true)?;
     let incomprehensible = flag(alloc, value, path, "incomprehensible", false)?;
     let held = held_at(alloc, incomprehensible, &kind, inner)?;
-    Ok((Generic { kind, mandatory, redistribute, held }, count))
+    Ok((
+        Generic {
+            kind,
+            mandatory,
+            redistribute,
+            held,
+        },
+        count,
+    ))
 }
 
 // a type's name in lower case, if it has 1 to 127 bytes
@@ -80,12 +97,21 @@ fn kind_at(alloc: Global, name: &[u8]) -> Result<Option<Text>, AllocError>
     if name.is_empty() || name.len() > 127 {
         return Ok(None);
     }
-    Ok(Some(Text::from_vec(name.iter().map(|byte| byte.to_ascii_lowercase()).collect(alloc)?)))
+    Ok(Some(Text::from_vec(
+        name.iter()
+            .map(|byte| byte.to_ascii_lowercase())
+            .collect(alloc)?,
+    )))
 }
 
 // what is held of a value of this type
 #[tactic(auto, unfolding(crate::specs::Generic::understood))]
-fn held_at(alloc: Global, incomprehensible: bool, kind: &Text, value: &Value) -> Result<Held, AllocError>
+fn held_at(
+    alloc: Global,
+    incomprehensible: bool,
+    kind: &Text,
+    value: &Value,
+) -> Result<Held, AllocError>
     ensures { IfOk result (λ held. held ≡ held_of incomprehensible kind.now (view value.now)) }
 {
     if incomprehensible || !kind.is(b"mi.sourcemetadata") {

@@ -6,13 +6,12 @@ ghost use Rattle.json_read.specs.Path.{IsName};
 ghost use Rattle.metadata_objects.specs.Reading.{Gives};
 ghost use Rattle.metadata_objects.specs.Host.{metadata_of, level_of, needed_level, host_match_of, hosts_of};
 
-use cdni_base::{Endpoint, EndpointFault, Listing};
-use json_read::{JsonPath, ParseFault, Value, list_at, maybe, need, parse};
-use std::alloc::Global;
-
 use crate::fault::MetaFault;
 use crate::generic::{GenericList, generics_at};
 use crate::object::{one_more, out_of_range, refuse_link, text};
+use cdni_base::{Endpoint, EndpointFault, Listing};
+use json_read::{JsonPath, ParseFault, Value, list_at, maybe, need, parse};
+use std::alloc::Global;
 
 /// The hosts of a metadata tree, in order (RFC 8006, section 4.1.1).
 #[derive(Drop)]
@@ -75,7 +74,12 @@ impl HostIndex {
 }
 
 // the hosts of the list at `path`, after `count` objects
-fn hosts_at(alloc: Global, items: &[Value], path: &JsonPath, count: u32) -> Result<(HostMatchList, u32), MetaFault>
+fn hosts_at(
+    alloc: Global,
+    items: &[Value],
+    path: &JsonPath,
+    count: u32,
+) -> Result<(HostMatchList, u32), MetaFault>
     ensures { Gives (λ x. (x.0, x.1)) result (hosts_of path.now count (items_view items.now)) }
 {
     let mut list = Listing::new(alloc);
@@ -91,7 +95,12 @@ fn hosts_at(alloc: Global, items: &[Value], path: &JsonPath, count: u32) -> Resu
 
 // the HostMatch at `path`, after `count` objects
 #[tactic(auto, unfolding(crate::specs::Host::host_match_of))]
-fn host_match_at(alloc: Global, value: &Value, path: &JsonPath, count: u32) -> Result<(HostMatch, u32), MetaFault>
+fn host_match_at(
+    alloc: Global,
+    value: &Value,
+    path: &JsonPath,
+    count: u32,
+) -> Result<(HostMatch, u32), MetaFault>
     ensures { Gives (λ x. (x.0, x.1)) result (host_match_of path.now count (view value.now)) }
 {
     let count = one_more(count)?;
@@ -108,7 +117,13 @@ fn host_match_at(alloc: Global, value: &Value, path: &JsonPath, count: u32) -> R
 
 // the HostMetadata at the property `name` of the object at `path`, after `count` objects
 #[tactic(auto, unfolding(crate::specs::Host::needed_level))]
-fn level_at_member(alloc: Global, value: &Value, path: &JsonPath, name: &str, count: u32) -> Result<(Level, u32), MetaFault>
+fn level_at_member(
+    alloc: Global,
+    value: &Value,
+    path: &JsonPath,
+    name: &str,
+    count: u32,
+) -> Result<(Level, u32), MetaFault>
     requires { IsName name.now }
     ensures { Gives (λ x. (x.0, x.1)) result (needed_level path.now name.now count (view value.now)) }
 {
@@ -118,7 +133,12 @@ fn level_at_member(alloc: Global, value: &Value, path: &JsonPath, name: &str, co
 
 // the HostMetadata at `path`, after `count` objects
 #[tactic(auto, unfolding(crate::specs::Host::level_of))]
-fn level_at(alloc: Global, value: &Value, path: &JsonPath, count: u32) -> Result<(Level, u32), MetaFault>
+fn level_at(
+    alloc: Global,
+    value: &Value,
+    path: &JsonPath,
+    count: u32,
+) -> Result<(Level, u32), MetaFault>
     ensures { Gives (λ x. (x.0, x.1)) result (level_of path.now count (view value.now)) }
 {
     refuse_link(alloc, value, path)?;
@@ -131,7 +151,12 @@ fn level_at(alloc: Global, value: &Value, path: &JsonPath, count: u32) -> Result
 
 // the objects of the property `metadata` of the object at `path`, after `count` objects
 #[tactic(auto, unfolding(crate::specs::Host::metadata_of))]
-fn metadata_at(alloc: Global, value: &Value, path: &JsonPath, count: u32) -> Result<(GenericList, u32), MetaFault>
+fn metadata_at(
+    alloc: Global,
+    value: &Value,
+    path: &JsonPath,
+    count: u32,
+) -> Result<(GenericList, u32), MetaFault>
     ensures { Gives (λ x. (x.0, x.1)) result (metadata_of path.now count (view value.now)) }
 {
     let Some(list) = maybe(alloc, value, path, "metadata")? else {

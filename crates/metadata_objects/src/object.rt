@@ -5,16 +5,19 @@ ghost use Rattle.serde_json.specs.View.{view};
 ghost use Rattle.json_read.specs.Path.{IsName};
 ghost use Rattle.metadata_objects.specs.Reading.{Gives, counted, no_link, IsOutOfRange, needed_text, flag_or};
 
+use crate::fault::MetaFault;
 use json_read::{FieldCause, FieldFault, JsonPath, Value, flag_at, maybe, need, text_at};
 use std::alloc::Global;
-
-use crate::fault::MetaFault;
 
 // one object more than `count`
 pub(crate) fn one_more(count: u32) -> Result<u32, MetaFault>
     ensures { result ≡ counted count }
 {
-    if count < 10000 { Ok(count + 1) } else { Err(MetaFault::TooMany { n: 10001 }) }
+    if count < 10000 {
+        Ok(count + 1)
+    } else {
+        Err(MetaFault::TooMany { n: 10001 })
+    }
 }
 
 // refuses a Link
@@ -22,7 +25,9 @@ pub(crate) fn refuse_link(alloc: Global, value: &Value, path: &JsonPath) -> Resu
     ensures { Gives (λ nothing. nothing) result (no_link path.now (view value.now)) }
 {
     if value.get("href").is_some() {
-        return Err(MetaFault::Link { path: path.copy(alloc)? });
+        return Err(MetaFault::Link {
+            path: path.copy(alloc)?,
+        });
     }
     Ok(())
 }
@@ -33,13 +38,21 @@ pub(crate) fn out_of_range(alloc: Global, path: &JsonPath, name: &str) -> MetaFa
     ensures { IsOutOfRange path.now name.now result }
 {
     match path.child(alloc, name) {
-        Ok(path) => MetaFault::Field(FieldFault { path, cause: FieldCause::OutOfRange }),
+        Ok(path) => MetaFault::Field(FieldFault {
+            path,
+            cause: FieldCause::OutOfRange,
+        }),
         Err(_) => MetaFault::Memory,
     }
 }
 
 // the text that must stand at the property `name`
-pub(crate) fn text(alloc: Global, value: &Value, path: &JsonPath, name: &str) -> Result<String, MetaFault>
+pub(crate) fn text(
+    alloc: Global,
+    value: &Value,
+    path: &JsonPath,
+    name: &str,
+) -> Result<String, MetaFault>
     requires { IsName name.now }
     ensures { Gives (λ text. string_bytes text) result (needed_text path.now name.now (view value.now)) }
 {
@@ -48,7 +61,13 @@ pub(crate) fn text(alloc: Global, value: &Value, path: &JsonPath, name: &str) ->
 }
 
 // the flag at the property `name`, or `absent` where it is not there
-pub(crate) fn flag(alloc: Global, value: &Value, path: &JsonPath, name: &str, absent: bool) -> Result<bool, MetaFault>
+pub(crate) fn flag(
+    alloc: Global,
+    value: &Value,
+    path: &JsonPath,
+    name: &str,
+    absent: bool,
+) -> Result<bool, MetaFault>
     requires { IsName name.now }
     ensures { Gives (λ flag. flag) result (flag_or path.now name.now absent (view value.now)) }
 {

@@ -32,7 +32,11 @@ pub(crate) fn sources_of(alloc: Global, value: &Value) -> Result<Option<SourceIt
 fn few(sources: SourceItemList) -> Option<SourceItemList>
     ensures { result ≡ few_sources sources }
 {
-    if count_endpoints(&sources) <= 16 { Some(sources) } else { None }
+    if count_endpoints(&sources) <= 16 {
+        Some(sources)
+    } else {
+        None
+    }
 }
 
 // how many endpoints the sources have together, or 17 where they have more
@@ -78,7 +82,10 @@ fn source_of(alloc: Global, value: &Value) -> Result<Option<SourceItem>, AllocEr
     let Some(endpoints) = each_endpoint(alloc, items)? else {
         return Ok(None);
     };
-    Ok(Some(SourceItem { protocol: Text::of(alloc, protocol.as_bytes())?, endpoints }))
+    Ok(Some(SourceItem {
+        protocol: Text::of(alloc, protocol.as_bytes())?,
+        endpoints,
+    }))
 }
 
 fn each_endpoint(alloc: Global, items: &[Value]) -> Result<Option<EndpointList>, AllocError>

@@ -1,8 +1,7 @@
 use Rattle.std.proofs.Common.{arith, refl, sym, ◌∙◌, ap, lit≤}
 use Rattle.std.proofs.lemmas.Bool.{eqb-true, eqb-false}
 use Rattle.http_node.specs.History.{nothing}
-use Rattle.http_node.specs.Answer.{answer_line}
-use Rattle.http_node.proofs.Running.{running_start, running_line, replay_unstarted, turn_cut, turn_fits, turn_done, replay_unread, replay_memory, replay_done, replay_open, replay_long, replay_none}
+use Rattle.http_node.proofs.Running.{running_start, replay_unstarted, turn_cut, turn_fits, turn_done, replay_unread, replay_memory, replay_done, replay_open, replay_long, replay_none}
 use Rattle.http_node.proofs.replaying.replay.Goals as goal
 
 pub returns-in_default-clause-ends : goal.returns-in_default-clause-ends
@@ -10,8 +9,12 @@ returns-in_default-clause-ends g c = replay_unstarted _ _
 
 pub lines-init : goal.lines-init
 lines-init g c = record {
-    running = running_start _ _ _ c.in-Ok.ensures _ refl _ (c.new-core.ensures ∙ ap nothing c.standard.ensures);
-    numbered = omega arith; short = lit≤ tt; read_later = omega arith; write_later = omega arith }
+  running = running_start _ _ _ c.in-Ok.ensures _ refl _ (c.new-core.ensures ∙ ap nothing c.standard.ensures);
+  numbered = omega arith;
+  short = lit≤ tt;
+  read_later = omega arith;
+  write_later = omega arith;
+}
 
 pub returns-then-is_empty-clause-ends : goal.returns-then-is_empty-clause-ends
 returns-then-is_empty-clause-ends g c =
@@ -60,4 +63,5 @@ lines-preserved g c =
       numbered = omega arith;
       short = let f = turn_fits _ _ _ _ _ _ _ _ _ c.lines.invariant.running _ _ _ _ _ _ _ _ _ _ l.0 l.1 c.in-Answered.ensures c.deref.ensures.value c.deref-in-lines.ensures.value w.held in omega (arith, f, len);
       read_later = omega (arith, c.in-Line.ensures.cause.later);
-      write_later = omega (arith, w.cause.later) }
+      write_later = omega (arith, w.cause.later);
+    }

@@ -1,4 +1,3 @@
-use Rattle.std.proofs.Common.{sym, ◌∙◌}
 use Rattle.std.proofs.lemmas.Result.{err_from_is_err_and}
 use Rattle.metadata_objects.specs.Generic.{generic_of}
 use Rattle.metadata_objects.proofs.Loops.{front_none, goes_on, ends, is_done}

@@ -1,5 +1,5 @@
 use Rattle.std.proofs.Common.{arith, ◌∙◌}
-use Rattle.http_node.proofs.Feeds.{moves_nothing, moves_read, moves_kept, moves_on, moves_on-nil, plain_on}
+use Rattle.http_node.proofs.Feeds.{moves_read, moves_on, moves_on-nil, plain_on}
 use Rattle.http_node.proofs.ahead.Ahead.next_line.Goals as goal
 
 pub returns-in-Line-clause-line : goal.returns-in-Line-clause-line

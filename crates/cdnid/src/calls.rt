@@ -113,46 +113,59 @@ fn fault_of<T: Drop>(
 }
 
 #[test]
-fn fields_of_json(rt: HostRuntime) -> Result<(), Fail> {
-    let alloc = rt.alloc();
-    assert_eq!(rt; parse(alloc, b"{").err(), Some(ParseFault::NotJson));
+fn texts_of_json(rt: HostRuntime) {
+    assert_eq!(rt; parse(rt.alloc(), b"{").err(), Some(ParseFault::NotJson));
     assert_eq!(rt;
-        parse(alloc, b"\"\\ud800\"").err(),
+        parse(rt.alloc(), b"\"\\ud800\"").err(),
         Some(ParseFault::NotJson)
     );
-    let Ok(value) = parse(alloc, b"{\"a\":[true,\"x\",7]}") else {
-        return Err(Fail::from("JSON"));
-    };
+}
+
+#[test]
+fn fields_of_json(rt: HostRuntime) -> Result<(), Fail> {
+    let alloc = rt.alloc();
+    let value = parse(alloc, b"{\"a\":[true,\"x\",7]}")
+        .ok()
+        .expect(&rt, "JSON");
     let root = JsonPath::root(alloc);
-    let Ok(list) = need(alloc, &value, &root, "a") else {
-        return Err(Fail::from("a member"));
-    };
+    let list = need(alloc, &value, &root, "a").ok().expect(&rt, "a member");
     let path = root.child(alloc, "a")?;
-    let Ok(items) = list_at(alloc, list, &path) else {
-        return Err(Fail::from("a list"));
-    };
+    let items = list_at(alloc, list, &path).ok().expect(&rt, "a list");
     assert_eq!(rt; items.len(), 3);
     let third = path.item(alloc, 2)?;
     assert_eq!(rt; third.bytes(), b"/a/2".as_slice());
-    assert!(rt; matches!(flag_at(alloc, &items[0], &path.item(alloc, 0)?), Ok(true)));
-    assert!(rt; matches!(text_at(alloc, &items[1], &path), Ok(text) if text.as_str() == "x"));
-    assert!(rt; matches!(whole_at(alloc, &items[2], &third, 7), Ok(7)));
-    assert!(rt; matches!(maybe(alloc, &value, &root, "b"), Ok(None)));
-    let (place, cause) = fault_of(alloc, whole_at(alloc, &items[2], &third, 6))?;
-    assert_eq!(rt;
-        (place.as_slice(), cause),
-        (b"/a/2".as_slice(), FieldCause::OutOfRange)
+    assert_eq!(rt; flag_at(alloc, &items[0], &path).ok(), Some(true));
+    let text = text_at(alloc, &items[1], &path).ok().expect(&rt, "a text");
+    assert_eq!(rt; text.as_str(), "x");
+    assert_eq!(rt; whole_at(alloc, &items[2], &third, 7).ok(), Some(7));
+    assert!(rt;
+        maybe(alloc, &value, &root, "b")
+            .ok()
+            .expect(&rt, "an answer")
+            .is_none()
     );
+    Ok(())
+}
+
+#[test]
+fn faults_of_fields(rt: HostRuntime) -> Result<(), Fail> {
+    let alloc = rt.alloc();
+    let value = parse(alloc, b"{\"a\":[7]}").ok().expect(&rt, "JSON");
+    let root = JsonPath::root(alloc);
+    let list = need(alloc, &value, &root, "a").ok().expect(&rt, "a member");
+    let path = root.child(alloc, "a")?;
+    let items = list_at(alloc, list, &path).ok().expect(&rt, "a list");
+    assert_eq!(rt; items.len(), 1);
+    let first = path.item(alloc, 0)?;
+    let (place, cause) = fault_of(alloc, whole_at(alloc, &items[0], &first, 6))?;
+    assert_eq!(rt; place.as_slice(), b"/a/0".as_slice());
+    assert_eq!(rt; cause, FieldCause::OutOfRange);
     let (place, cause) = fault_of(alloc, need(alloc, &value, &root, "b"))?;
-    assert_eq!(rt;
-        (place.as_slice(), cause),
-        (b"/b".as_slice(), FieldCause::Missing)
-    );
+    assert_eq!(rt; place.as_slice(), b"/b".as_slice());
+    assert_eq!(rt; cause, FieldCause::Missing);
     let (place, cause) = fault_of(alloc, flag_at(alloc, list, &path.copy(alloc)?))?;
-    assert_eq!(rt;
-        (place.as_slice(), cause),
-        (b"/a".as_slice(), FieldCause::WrongKind)
-    );
+    assert_eq!(rt; place.as_slice(), b"/a".as_slice());
+    assert_eq!(rt; cause, FieldCause::WrongKind);
     Ok(())
 }
 
@@ -176,45 +189,47 @@ fn host_indexes(rt: HostRuntime) -> Result<(), Fail> {
     Ok(())
 }
 
+// the place and the cause of the fault of a text that is no HostIndex; a Link has no cause
+fn index_fault(alloc: Global, text: &str) -> Result<(Vec<u8>, Option<FieldCause>), Fail> {
+    match HostIndex::read(alloc, text.as_bytes()) {
+        Err(MetaFault::Field(fault)) => Ok((fault.path.bytes().to_vec(alloc)?, Some(fault.cause))),
+        Err(MetaFault::Link { path }) => Ok((path.bytes().to_vec(alloc)?, None)),
+        _ => Err(Fail::from("a fault with a place")),
+    }
+}
+
 #[test]
 fn host_index_faults(rt: HostRuntime) -> Result<(), Fail> {
     let alloc = rt.alloc();
     for (text, place, cause) in [
-        ("[]", "", FieldCause::WrongKind),
-        ("{}", "/hosts", FieldCause::Missing),
+        ("[]", "", Some(FieldCause::WrongKind)),
+        ("{}", "/hosts", Some(FieldCause::Missing)),
         (
             "{\"hosts\":[{\"host-metadata\":{}}]}",
             "/hosts/0/host",
-            FieldCause::Missing,
+            Some(FieldCause::Missing),
         ),
-        ("{\"hosts\":[7]}", "/hosts/0", FieldCause::WrongKind),
+        ("{\"hosts\":[7]}", "/hosts/0", Some(FieldCause::WrongKind)),
         (
             "{\"hosts\":[{\"host\":\"a b\"}]}",
             "/hosts/0/host",
-            FieldCause::OutOfRange,
+            Some(FieldCause::OutOfRange),
         ),
         (
             "{\"hosts\":[{\"host\":\"a\",\"host-metadata\":{\"paths\":null,\"metadata\":[{}]}}]}",
             "/hosts/0/host-metadata/metadata/0/generic-metadata-type",
-            FieldCause::Missing,
+            Some(FieldCause::Missing),
         ),
         (
             "{\"hosts\":[{\"host\":\"a\",\"host-metadata\":{\"paths\":null}}]}",
             "/hosts/0/host-metadata/paths",
-            FieldCause::OutOfRange,
+            Some(FieldCause::OutOfRange),
         ),
+        ("{\"hosts\":[{\"href\":\"/x\"}]}", "/hosts/0", None),
     ] {
-        match HostIndex::read(alloc, text.as_bytes()) {
-            Err(MetaFault::Field(fault)) => {
-                assert_eq!(rt; fault.path.bytes(), place.as_bytes(), "{text}");
-                assert_eq!(rt; fault.cause, cause, "{text}");
-            }
-            _ => return Err(Fail::from("a field's fault")),
-        }
+        let (found, why) = index_fault(alloc, text)?;
+        assert_eq!(rt; found.as_slice(), place.as_bytes(), "{text}");
+        assert_eq!(rt; why, cause, "{text}");
     }
-    assert!(rt; matches!(HostIndex::read(alloc, b"{"), Err(MetaFault::NotJson)));
-    assert!(rt;
-        matches!(HostIndex::read(alloc, b"{\"hosts\":[{\"href\":\"/x\"}]}"), Err(MetaFault::Link { path }) if path.bytes() == b"/hosts/0".as_slice())
-    );
     Ok(())
 }

@@ -109,27 +109,33 @@ fn faults_end_the_replay(rt: HostRuntime) -> Result<(), Fail> {
     Ok(())
 }
 
+// the status of the words of this text, and how many bytes were written to the output and to the notes
+fn ended_by(alloc: Global, text: &str) -> Result<(Status, u64, u64), Fail> {
+    let mut words = Vec::new(alloc);
+    for word in text.split_whitespace() {
+        words.push(String::from_str(alloc, word)?)?;
+    }
+    let mut input = SteadySource::new(alloc, b"0 1000 refresh\n")?;
+    let mut output = SteadySink::new(alloc)?;
+    let mut notes = SteadySink::new(alloc)?;
+    let status = batch_main(alloc, words.as_slice(), &mut input, &mut output, &mut notes);
+    Ok((status, output.count, notes.count))
+}
+
 #[test]
 fn other_words_are_no_command(rt: HostRuntime) -> Result<(), Fail> {
-    let alloc = rt.alloc();
-    for words in [
-        [].as_slice(),
-        ["Replay"].as_slice(),
-        ["replay", "replay"].as_slice(),
-        ["--help"].as_slice(),
-        [""].as_slice(),
+    for text in [
+        "",
+        "Replay",
+        "replay replay",
+        "replay --summary",
+        "--help",
+        "--version",
     ] {
-        let mut given = Vec::new(alloc);
-        for word in words {
-            given.push(String::from_str(alloc, word)?)?;
-        }
-        let mut input = SteadySource::new(alloc, b"0 1000 refresh\n")?;
-        let mut output = SteadySink::new(alloc)?;
-        let mut notes = SteadySink::new(alloc)?;
-        let status = batch_main(alloc, given.as_slice(), &mut input, &mut output, &mut notes);
-        assert_eq!(rt; status, Status::Usage);
-        assert_eq!(rt; output.count, 0);
-        assert_eq!(rt; notes.count, 0);
+        let (status, output, notes) = ended_by(rt.alloc(), text)?;
+        assert_eq!(rt; status, Status::Usage, "{text}");
+        assert_eq!(rt; output, 0);
+        assert_eq!(rt; notes, 0);
     }
     Ok(())
 }

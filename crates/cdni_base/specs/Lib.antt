@@ -1,3 +1,4 @@
 pub mod Endpoint
 pub mod Limits
 pub mod Rule
+pub mod Scratch

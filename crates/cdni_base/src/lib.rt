@@ -5,10 +5,12 @@
 mod endpoint;
 mod limits;
 mod rule;
+mod scratch;
 mod target;
 
 pub use endpoint::{Endpoint, EndpointFault, EndpointList, HostName};
 pub use limits::Limits;
 pub use listing::{Listing, Text, TextList};
 pub use rule::Rule;
+pub use scratch::Scratch;
 pub use target::{Asked, Protocol, SourceItem, SourceItemList, Target};

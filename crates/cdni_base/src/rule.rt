@@ -1,7 +1,11 @@
 //! The rules that forbid a delivery.
 
-ghost use Rattle.std.specs.Prelude.{◌≡◌};
+ghost use Rattle.std.specs.Prelude.{◌≡◌, ◌++◌};
+ghost use Rattle.cdni_base.specs.Scratch.{Puts};
+ghost use Rattle.cdni_base.specs.Rule.{number_or_dash};
 
+use crate::scratch::Scratch;
+use itoa::Buffer;
 use listing::Text;
 
 /// Why a delivery is denied, in the order in which the rules are asked.
@@ -43,5 +47,39 @@ impl Rule {
             | Rule::Time { rule: _ }
             | Rule::Protocol { rule: _ } => 403,
         }
+    }
+
+    /// Puts the text of the denial into `out`. False exactly where it does not fit; then nothing changes.
+    pub fn put(&self, out: &mut Scratch) -> bool
+        ensures { Puts out.old out.new (rule_text self.now) result }
+    {
+        match self {
+            Rule::Method => out.append(b"method"),
+            Rule::NoMetadata => out.append(b"no-metadata"),
+            Rule::MetadataInvalid { trigger } => put_numbered(
+                out,
+                b"metadata-invalid ",
+                Some(*trigger),
+            ),
+            Rule::NoHost => out.append(b"no-host"),
+            Rule::Unenforceable { kind } => out.append_two(b"unenforceable ", kind.bytes()),
+            Rule::Location { rule } => put_numbered(out, b"location ", rule.map(|n| n as u64)),
+            Rule::Time { rule } => put_numbered(out, b"time ", rule.map(|n| n as u64)),
+            Rule::Protocol { rule } => put_numbered(out, b"protocol ", rule.map(|n| n as u64)),
+            Rule::NoSource => out.append(b"no-source"),
+        }
+    }
+}
+
+// a word and a number, or `-` for none
+fn put_numbered(out: &mut Scratch, word: &[u8], number: Option<u64>) -> bool
+    ensures { Puts out.old out.new (word.now ++ number_or_dash number) result }
+{
+    match number {
+        Some(number) => {
+            let mut digits = Buffer::new();
+            out.append_two(word, digits.format(number).as_bytes())
+        }
+        None => out.append_two(word, b"-"),
     }
 }

@@ -26,5 +26,6 @@ IsAsked (Last count) len position = len ≤ position + count
 abbrev pub IsAnswer : Want → ℕ → Span → Type 0
 IsAnswer want len Whole = Unit {0}
 IsAnswer want len (Part first last) =
-    (first ≤ last) × (last < len) × ((position : ℕ) → position < len → IsAsked want len position ↔ ((first ≤ position) × (position ≤ last)))
+    (first ≤ last) × (last < len) ×
+    ((position : ℕ) → position < len → IsAsked want len position ↔ ((first ≤ position) × (position ≤ last)))
 IsAnswer want len Unsatisfiable = (position : ℕ) → position < len → IsAsked want len position → ⊥

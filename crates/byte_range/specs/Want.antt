@@ -24,7 +24,8 @@ IsRange text All = ⊥
 IsRange text (From first None) =
     (unit : List ℕ) × (digits : List ℕ) × (text ≡ unit ++ (digits ++ 45 ∷ [])) × IsUnit unit × IsNumber digits first
 IsRange text (From first (Some last)) =
-    (unit : List ℕ) × (digits : List ℕ) × (others : List ℕ) × (text ≡ unit ++ (digits ++ 45 ∷ others)) × IsUnit unit × IsNumber digits first × IsNumber others last × (first ≤ last)
+    (unit : List ℕ) × (digits : List ℕ) × (others : List ℕ) × (text ≡ unit ++ (digits ++ 45 ∷ others)) ×
+    IsUnit unit × IsNumber digits first × IsNumber others last × (first ≤ last)
 IsRange text (Last count) =
     (unit : List ℕ) × (digits : List ℕ) × (text ≡ unit ++ 45 ∷ digits) × IsUnit unit × IsNumber digits count
 

@@ -5,5 +5,6 @@ ghost use Rattle.byte_range.specs.Want.{Reads, want_of};
 
 /// Each text reads as one range at most, or as all: the grammar gives one answer.
 pub fn grammar_has_one_reading()
-    ensures { (text : List ℕ) (want other : Want) → Reads text want → Reads text other → want ≡ other }
+    ensures { (text : List ℕ) (want other : Want) →
+        Reads text want → Reads text other → want ≡ other }
 {}

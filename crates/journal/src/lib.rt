@@ -27,7 +27,11 @@ impl<E> Model for Journal<E> {
 
     ghost Value = { Seen E };
 
-    ghost view = { λ j. record { retired = j.retired; stored = j.entries.items; spare = deque_capacity j.entries - deque_len j.entries } };
+    ghost view = { λ j. record {
+      retired = j.retired;
+      stored = j.entries.items;
+      spare = deque_capacity j.entries - deque_len j.entries;
+    } };
 }
 
 impl<E> Journal<E> {

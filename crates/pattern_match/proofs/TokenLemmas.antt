@@ -1,5 +1,5 @@
 -- The tokens of units, one step at a time.
-use Rattle.std.proofs.Common.{◌≡◌, ℕ, ◌≤◌, true, false, length, drop, List, [], ◌∷◌, ◌++◌, refl, ap, sym, ◌∙◌, append_assoc}
+use Rattle.std.proofs.Common.{◌≡◌, ℕ, ◌≤◌, true, false, length, drop, List, [], ◌∷◌, refl, ap, sym, ◌∙◌}
 use Rattle.std.proofs.lemmas.Bool.{cond-true, cond-false}
 use Rattle.std.proofs.lemmas.List.{drop_all}
 use Rattle.pattern_match.specs.declared.units.TextUnit.{TextUnit}
@@ -41,7 +41,3 @@ first-plain text at next after u v first second escape =
 pub first-last : (text : List ℕ) (at next : ℕ) (u : TextUnit) → units (drop at text) ≡ u ∷ units (drop next text) → length text ≤ next → tokens_from (units (drop at text)) ≡ token_of u ∷ tokens_from (units (drop next text))
 first-last text at next u first past =
     ap tokens_from (first ∙ ap (λ (us : List TextUnit). u ∷ us) (units-past text next past)) ∙ tokens_from-last u ∙ ap (λ (us : List TextUnit). token_of u ∷ tokens_from us) (sym (units-past text next past))
-
--- one more item, taken from what is left
-pub list_more : {A : Type 0} (items : List A) (item : A) (rest left whole : List A) → items ++ left ≡ whole → left ≡ item ∷ rest → (items ++ item ∷ []) ++ rest ≡ whole
-list_more {A = A} items item rest left whole before split = append_assoc items (item ∷ []) rest ∙ ap (λ (xs : List A). items ++ xs) (sym split) ∙ before

@@ -26,7 +26,8 @@ TokensMatch case_sensitive (Any ∷ tokens) us =
 TokensMatch case_sensitive (One ∷ tokens) us =
     (u : TextUnit) × (rest : List TextUnit) × (us ≡ u ∷ rest) × (u ≢ Byte 47) × TokensMatch case_sensitive tokens rest
 TokensMatch case_sensitive (Literal literal ∷ tokens) us =
-    (u : TextUnit) × (rest : List TextUnit) × (us ≡ u ∷ rest) × (compared case_sensitive u ≡ compared case_sensitive literal) × TokensMatch case_sensitive tokens rest
+    (u : TextUnit) × (rest : List TextUnit) × (us ≡ u ∷ rest) ×
+    (compared case_sensitive u ≡ compared case_sensitive literal) × TokensMatch case_sensitive tokens rest
 
 -- the pattern matches the text
 abbrev pub Matches : Compiled → List ℕ → Type 0

@@ -61,7 +61,8 @@ fn token_of(unit: TextUnit) -> Token
 // The first token of the pattern from `at` on, and where the next one begins.
 fn token_at(text: &[u8], at: usize) -> (Token, usize)
     requires { at < length text.now }
-    ensures first { tokens_from (units (drop at text.now)) ≡ result.0 ∷ tokens_from (units (drop result.1 text.now)) }
+    ensures first { tokens_from (units (drop at text.now)) ≡
+        result.0 ∷ tokens_from (units (drop result.1 text.now)) }
     ensures further { at < result.1 }
     ensures within { result.1 ≤ length text.now }
 {

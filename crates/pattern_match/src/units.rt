@@ -62,7 +62,8 @@ fn is_encoded_at(text: &[u8], at: usize) -> bool
 /// The first unit of the text from `at` on.
 pub fn unit_at(text: &[u8], at: usize) -> TextUnit
     requires { at < length text.now }
-    ensures first { units (drop at text.now) ≡ result ∷ units (drop (at + length (bytes_of result)) text.now) }
+    ensures first { units (drop at text.now) ≡
+        result ∷ units (drop (at + length (bytes_of result)) text.now) }
     ensures within { at + length (bytes_of result) ≤ length text.now }
 {
     if is_encoded_at(text, at) {

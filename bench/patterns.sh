@@ -1,0 +1,29 @@
+#!/usr/bin/env bash
+# Instructions for each unit of a text that a pattern takes, as the slope between texts of two lengths, counted under
+# callgrind. What is asked for is at most 60 a unit.
+set -euo pipefail
+cd "$(dirname "$0")/../crates/pattern_bench"
+rt run > /dev/null 2>&1
+
+# The instructions of a run: the number of a pattern, the length of the text, how often it is matched.
+instructions() {
+    valgrind --tool=callgrind --callgrind-out-file=/dev/null out/pattern_bench "$@" 2>&1 > /dev/null |
+        awk '/Collected/ { print $4 }'
+}
+
+# The instructions of one match: the difference of 200 matches and 100 matches.
+one_match() {
+    local more less
+    more=$(instructions "$1" "$2" 200)
+    less=$(instructions "$1" "$2" 100)
+    echo $(((more - less) / 100))
+}
+
+patterns=('/seg/*' '*.ts' '/a/*/b/*/c?.m4s')
+for number in 0 1 2; do
+    short=$(one_match "$number" 30)
+    middle=$(one_match "$number" 300)
+    long=$(one_match "$number" 3000)
+    echo "${patterns[$number]}: a match of 30, 300, 3,000 bytes takes $short, $middle, $long instructions;" \
+        "a unit takes $(((middle - short) / 270)) and $(((long - middle) / 2700))"
+done

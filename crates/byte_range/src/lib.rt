@@ -1,0 +1,11 @@
+//! Single ranges of bytes, as the value of a Range header asks for them (RFC 9110, section 14).
+#![tactic(auto)]
+
+pub mod laws;
+mod span;
+#[cfg(test)]
+mod tests;
+mod want;
+
+pub use span::{Span, resolve};
+pub use want::{Want, read};

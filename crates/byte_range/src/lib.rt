@@ -2,10 +2,12 @@
 #![tactic(auto)]
 
 pub mod laws;
+mod put;
 mod span;
 #[cfg(test)]
 mod tests;
 mod want;
 
+pub use put::put_range;
 pub use span::{Span, resolve};
 pub use want::{Want, read};

@@ -1,5 +1,7 @@
 // The cases of a table, from a header's value and a body's length to what is sent.
-use crate::{Span, Want, laws, read, resolve};
+use crate::{Span, Want, laws, put_range, read, resolve};
+use cdni_base::Scratch;
+use std::test::Fail;
 
 #[test]
 fn ranges(rt: HostRuntime) {
@@ -103,4 +105,15 @@ fn numbers_past_the_largest(rt: HostRuntime) {
 #[test]
 fn laws_are_cited() {
     laws::grammar_has_one_reading();
+}
+
+#[test]
+fn parts_are_put_where_they_fit(rt: HostRuntime) -> Result<(), Fail> {
+    let mut out = Scratch::new(rt.alloc(), 24)?;
+    assert!(rt; put_range(&mut out, 2, 4, 10));
+    assert!(rt; !put_range(&mut out, 2, 4, 100));
+    assert_eq!(rt; out.bytes(), b"bytes 2-4/10".as_slice());
+    assert!(rt; put_range(&mut out, 0, 0, 10));
+    assert_eq!(rt; out.bytes(), b"bytes 2-4/10bytes 0-0/10".as_slice());
+    Ok(())
 }

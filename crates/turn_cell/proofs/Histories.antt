@@ -1,5 +1,5 @@
 -- Facts on lists and on histories.
-use Rattle.std.proofs.Common.{◌≡◌, ◌≢◌, ℕ, zero, suc, ◌+◌, ◌<◌, ◌≤◌, ◌⊎◌, Bool, true, false, cond, ltb, List, [], ◌∷◌, ◌++◌, length, get_or, set, All, Contains, sym, refl, ap, ◌∙◌, subst, inl, inr, ⊎_elim, append_assoc, append-nil, ltb-true, ltb-false, if◌then◌else◌, nat_lt, length-set, add-one, arith}
+use Rattle.std.proofs.Common.{◌≡◌, ◌≢◌, ℕ, zero, suc, ◌+◌, ◌<◌, ◌≤◌, ◌⊎◌, Bool, true, false, cond, ltb, List, [], ◌∷◌, ◌++◌, length, get_or, All, Contains, sym, refl, ap, ◌∙◌, subst, inl, inr, ⊎_elim, append_assoc, append-nil, ltb-true, ltb-false, add-one, arith}
 use Rattle.std.proofs.lemmas.List.Elements.{All-append, All-nil, All-cons, All-head, All-tail, Contains-append_cases}
 use mathlib.Core.Logic.{dite}
 use mathlib.Core.Option.{some, some-injective, some-ne-none}
@@ -21,10 +21,10 @@ module _ {A : Type 0} where
   between [] o b p e le = (b, refl, e)
   between (x ∷ a) o [] p e le = absurd (omega arith)
   between (x ∷ a) o (y ∷ b) p e le =
-    let rest : a ++ o ≡ b ++ p = cc in
-    let same : y ≡ x = cc in
-    let r = between a o b p rest (omega arith) in
-    (r.0, (λ i. same i ∷ r.1 i), r.2)
+      let rest : a ++ o ≡ b ++ p = cc in
+      let same : y ≡ x = cc in
+      let r = between a o b p rest (omega arith) in
+      (r.0, (λ i. same i ∷ r.1 i), r.2)
 
   pub inside : (l : List A) (i : ℕ) (a : A) → get_elem? l i ≡ some a → i < length l
   inside [] i a e = absurd (some-ne-none a (sym e))
@@ -86,7 +86,7 @@ numbers_from-has a (suc m) x le lt = dite (ℕ_discrete a x) (λ e. subst (λ y.
 pub numbers_from-push : (a m : ℕ) → numbers_from a (m + 1) ≡ numbers_from a m ++ (a + m) ∷ []
 numbers_from-push a zero = ap (λ x. x ∷ []) (omega arith)
 numbers_from-push a (suc m) =
-  rw (add-one (suc m)) (λ i. a ∷ ((ap (λ k. numbers_from (a + 1) k) (sym (add-one m)) ∙ (numbers_from-push (a + 1) m ∙ ap (λ x. numbers_from (a + 1) m ++ x ∷ []) (let e : (a + 1) + m ≡ a + suc m = omega arith in e))) i))
+    rw (add-one (suc m)) (λ i. a ∷ ((ap (λ k. numbers_from (a + 1) k) (sym (add-one m)) ∙ (numbers_from-push (a + 1) m ∙ ap (λ x. numbers_from (a + 1) m ++ x ∷ []) (let e : (a + 1) + m ≡ a + suc m = omega arith in e))) i))
 
 pub length-numbers_from : (a m : ℕ) → length (numbers_from a m) ≡ m
 length-numbers_from a zero = refl
@@ -108,20 +108,20 @@ module _ {E : Type 0} where
   -- of two beginnings of one history, the shorter is followed by others in the longer, and in the history past it
   shorter : (ms : List ℕ) (a b log rest : H E) → FollowedByOthers ms a log → log ≡ b ++ rest → length a ≤ length b → FollowedByOthers ms a b × NoneOf ms rest
   shorter ms a b log rest f e le =
-    let m = between a f.0 b rest (sym f.1 ∙ e) le in
-    let none : NoneOf ms (m.0 ++ rest) = subst (NoneOf ms) m.2 f.2 in
-    ((m.0, m.1, all_left (λ (x : ℕ × E). ¬ (Contains ms x.0)) m.0 rest none), all_right (λ (x : ℕ × E). ¬ (Contains ms x.0)) m.0 rest none)
+      let m = between a f.0 b rest (sym f.1 ∙ e) le in
+      let none : NoneOf ms (m.0 ++ rest) = subst (NoneOf ms) m.2 f.2 in
+      ((m.0, m.1, all_left (λ (x : ℕ × E). ¬ (Contains ms x.0)) m.0 rest none), all_right (λ (x : ℕ × E). ¬ (Contains ms x.0)) m.0 rest none)
 
   longer_by : (ms ns : List ℕ) (a b log : H E) (t : Bool) → ltb (length a) (length b) ≡ t → FollowedByOthers ms a log → FollowedByOthers ns b log
       → FollowedByOthers ms a (cond t b a) × FollowedByOthers ns b (cond t b a) × FollowedByOthers (ms ++ ns) (cond t b a) log
   longer_by ms ns a b log true is f g =
-    let lt : length a < length b = ltb-true (length a) (length b) is in
-    let s = shorter ms a b log g.0 f g.1 (omega arith) in
-    (s.0, others_none ns b, (g.0, g.1, none_of_both ms ns g.0 s.1 g.2))
+      let lt : length a < length b = ltb-true (length a) (length b) is in
+      let s = shorter ms a b log g.0 f g.1 (omega arith) in
+      (s.0, others_none ns b, (g.0, g.1, none_of_both ms ns g.0 s.1 g.2))
   longer_by ms ns a b log false is f g =
-    let le : length b ≤ length a = ltb-false (length a) (length b) is in
-    let s = shorter ns b a log f.0 g f.1 le in
-    (others_none ms a, s.0, (f.0, f.1, none_of_both ms ns f.0 f.2 s.1))
+      let le : length b ≤ length a = ltb-false (length a) (length b) is in
+      let s = shorter ns b a log f.0 g f.1 le in
+      (others_none ms a, s.0, (f.0, f.1, none_of_both ms ns f.0 f.2 s.1))
 
   -- what follows the longer of two beginnings of one history
   pub longer_of : (ms ns : List ℕ) (a b log : H E) → FollowedByOthers ms a log → FollowedByOthers ns b log

@@ -37,7 +37,7 @@ module _ {V E : Type 0} where
   pub the_turn : (m0 m1 m2 m3 : Sat V E) (st : Stage E) (k : ℕ) (x : V) (h : List (ℕ × E)) → m0.1 ≡ [] → m1 ≡ (at_stage st m0.0, m0.1) → m2 ≡ (having_seen h (Serving k) m1.0, (0, Some x) ∷ m1.1) → m3 ≡ (m2.0, (0, None) ∷ rest m2.1)
       → m3 ≡ (having_seen h (Serving k) m0.0, (0, None) ∷ [])
   the_turn m0 m1 m2 m3 st k x h none drew gets took =
-    took ∙ (ap (λ (m : Sat V E). let r : Sat V E = (m.0, (0, None) ∷ rest m.1) in r) gets ∙ (ap (λ (m : Sat V E). let r : Sat V E = (having_seen h (Serving k) m.0, (0, None) ∷ m.1) in r) drew ∙ ap (λ c. let r : Sat V E = (having_seen h (Serving k) m0.0, (0, None) ∷ c) in r) none))
+      took ∙ (ap (λ (m : Sat V E). let r : Sat V E = (m.0, (0, None) ∷ rest m.1) in r) gets ∙ (ap (λ (m : Sat V E). let r : Sat V E = (having_seen h (Serving k) m.0, (0, None) ∷ m.1) in r) drew ∙ ap (λ c. let r : Sat V E = (having_seen h (Serving k) m0.0, (0, None) ∷ c) in r) none))
 
   -- what such a seat was told of the history, by what it was before
   pub told : (m0 m1 : Sat V E) (st : Stage E) (h : List (ℕ × E)) → m1 ≡ (at_stage st m0.0, m0.1) → FollowedByOthers m1.0.numbers m1.0.seen h × AllBelow m1.0.passes h → FollowedByOthers m0.0.numbers m0.0.seen h × AllBelow m0.0.passes h
@@ -47,8 +47,8 @@ module _ {V E : Type 0} where
   pub merged : (st : Step (Option V)) (m1 m2 : Sat V E) (found : ℕ) (v w : View E) (cs : List (ℕ × Option V)) → m1 ≡ (joined v w, cs) → learned st m1 found m2
       → (m2 ≡ (at_stage Resting (joined v w), cs)) × FollowedByOthers v.numbers v.seen (longer v.seen w.seen) × FollowedByOthers w.numbers w.seen (longer v.seen w.seen) × AllBelow v.passes (longer v.seen w.seen)
   merged st m1 m2 found v w cs is =
-    let Q : Sat V E → Type 0 = λ m. learned st m found m2 → (m2 ≡ (at_stage Resting (joined v w), cs)) × FollowedByOthers v.numbers v.seen (longer v.seen w.seen) × FollowedByOthers w.numbers w.seen (longer v.seen w.seen) × AllBelow v.passes (longer v.seen w.seen) in
-    subst Q (sym is) (λ l. let t = l.1 v.numbers w.numbers v.seen w.seen refl in (l.0, t.0, t.1, t.2))
+      let Q : Sat V E → Type 0 = λ m. learned st m found m2 → (m2 ≡ (at_stage Resting (joined v w), cs)) × FollowedByOthers v.numbers v.seen (longer v.seen w.seen) × FollowedByOthers w.numbers w.seen (longer v.seen w.seen) × AllBelow v.passes (longer v.seen w.seen) in
+      subst Q (sym is) (λ l. let t = l.1 v.numbers w.numbers v.seen w.seen refl in (l.0, t.0, t.1, t.2))
 
 pub same_some : {V : Type 0} (o : Option V) (x y : V) → o ≡ Some x → o ≡ Some y → x ≡ y
 same_some o x y p q = let e : Some x ≡ Some y = sym p ∙ q in cc
@@ -62,5 +62,5 @@ module _ {E : Type 0} where
   -- the numbers of a list with one pass more
   pub numbered_push : (list list' : List (Pass E)) (pass : Pass E) (n : ℕ) → list' ≡ list ++ pass ∷ [] → number_of pass ≡ n → map number_of list ≡ numbers_from 0 n → map number_of list' ≡ numbers_from 0 (n + 1)
   numbered_push list list' pass n pushed is before =
-    let last : number_of pass ≡ 0 + n = omega arith in
-    ap (map number_of) pushed ∙ (map-append number_of list (pass ∷ []) ∙ ((λ i. before i ++ last i ∷ []) ∙ sym (numbers_from-push 0 n)))
+      let last : number_of pass ≡ 0 + n = omega arith in
+      ap (map number_of) pushed ∙ (map-append number_of list (pass ∷ []) ∙ ((λ i. before i ++ last i ∷ []) ∙ sym (numbers_from-push 0 n)))

@@ -1,13 +1,11 @@
 -- Facts on views: the tickets among them, and how what a seat's stage says lasts.
-use Rattle.std.proofs.Common.{◌≡◌, ◌≢◌, ℕ, zero, suc, ◌+◌, ◌<◌, ◌≤◌, ◌⊎◌, List, [], ◌∷◌, ◌++◌, length, set, sym, refl, ap, ◌∙◌, subst, inl, inr, ⊎_elim, arith}
+use Rattle.std.proofs.Common.{◌≡◌, ◌≢◌, ℕ, zero, suc, ◌+◌, ◌<◌, ◌≤◌, List, [], ◌∷◌, ◌++◌, length, set, sym, ap, subst, arith}
 use mathlib.Core.Option.{some, some-injective, some-ne-none}
 use lib.ListN.{get_elem?}
-use Rattle.atomic_table.proofs.Lists.{at_set, set_else}
 use Rattle.turn_cell.specs.declared.view.View.{View}
 use Rattle.turn_cell.specs.declared.view.Stage.{Stage}
 use Rattle.turn_cell.specs.declared.view.Stage.TheVariants.{Making, Resting, Waiting, Serving, Joined}
-use Rattle.turn_cell.specs.Rule.{HasTicket, tickets_of, tickets, IsServed, IsFree, IsAt}
-use Rattle.turn_cell.proofs.Histories.{same_at}
+use Rattle.turn_cell.specs.Rule.{HasTicket, tickets_of, tickets, IsAt}
 
 module _ {E : Type 0} where
   tickets_of-le : (st : Stage E) → tickets_of st ≤ 1

@@ -1,8 +1,7 @@
 -- What each step tells the seat that makes it.
-use Rattle.std.specs.Prelude.{◌≡◌, ◌≢◌, ℕ, ◌%◌, ◌^◌, List, [], ◌∷◌, ◌++◌, Option, Some}
+use Rattle.std.specs.Prelude.{◌≡◌, ◌≢◌, ℕ, ◌%◌, ◌^◌, List, ◌∷◌, Option, Some}
 use Rattle.atomic_table.specs.Table.{Step, Me, rest}
 use Rattle.turn_cell.specs.declared.view.View.{View}
-use Rattle.turn_cell.specs.declared.view.Stage.{Stage}
 use Rattle.turn_cell.specs.declared.view.Stage.TheVariants.{Resting, Waiting, Serving, Joined}
 use Rattle.turn_cell.specs.History.{AllBelow, FollowedByOthers}
 use Rattle.turn_cell.specs.View.{at_stage, having_seen}

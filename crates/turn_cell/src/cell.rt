@@ -8,10 +8,9 @@ use crate::turn::Turn;
 use crate::view::{TurnRule, View};
 use atomic_table::{Badge, Seat, Table};
 use std::alloc::{AllocError, Global};
-use std::hint;
-use std::mem;
 use std::sync::{Mutex, Wait};
 use std::thread::Threads;
+use std::{hint, mem};
 
 /// How often a thread looks before it sleeps.
 const LOOKS: u32 = 100;
@@ -134,12 +133,7 @@ impl<V: Stands> TurnCell<V> {
     }
 
     // Returns once the ticket is the one that is served.
-    fn wait_for<R: Wait>(
-        &self,
-        rt: &R,
-        seat: &mut Seat<Option<V>, View<V::Entry>>,
-        ticket: u64,
-    )
+    fn wait_for<R: Wait>(&self, rt: &R, seat: &mut Seat<Option<V>, View<V::Entry>>, ticket: u64)
         requires seat { seat.old.table_id ≡ self.now.table.shared.table_id }
         requires ticket { (k : ℕ) × (seat.old.me.0.stage ≡ Waiting k) × (ticket ≡ k % 2 ^ 64) }
         requires slot { seat.old.me.1 ≡ [] }

@@ -24,7 +24,9 @@ impl<E> PassList<E> {
     pub fn new(alloc: Global) -> PassList<E>
         ensures { result ≡ [] }
     {
-        PassList { items: Vec::new(alloc) }
+        PassList {
+            items: Vec::new(alloc),
+        }
     }
 
     /// How many passes there are.

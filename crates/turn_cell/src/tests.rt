@@ -18,7 +18,11 @@ fn last_of(cell: &TurnCell<Diary>, list: &mut PassList<u64>, number: u32) -> Opt
     ensures found { IfSome result (λ pass. IsOf cell.now pass × (numbers_of pass ≡ number ∷ [])) }
 {
     let pass = list.pop()?;
-    if pass.number() == number { Some(pass) } else { None }
+    if pass.number() == number {
+        Some(pass)
+    } else {
+        None
+    }
 }
 
 // Notes 0, 1, and so on, by one turn each.

@@ -1,4 +1,4 @@
-use Rattle.std.proofs.Common.{◌≡◌, ◌≤◌, ◌-◌, [], ◌∷◌, map, All}
+use Rattle.std.proofs.Common.{◌≡◌, ◌-◌, [], ◌∷◌, map, All}
 use Rattle.turn_cell.specs.History.{numbers_from}
 use Rattle.turn_cell.specs.View.{maker_with}
 use Rattle.turn_cell.specs.Cell.{number_of, numbers_of, seen_of, IsOf}
@@ -11,5 +11,5 @@ invariant-loop-number g l = record {
   numbered : map number_of l.list ≡ numbers_from 0 l.number;
   cell : All (λ pass. IsOf l.self pass) l.list;
   own : All (λ pass. numbers_of pass ≡ number_of pass ∷ []) l.list;
-  unseen : All (λ pass. seen_of pass ≡ []) l.list
+  unseen : All (λ pass. seen_of pass ≡ []) l.list;
 }

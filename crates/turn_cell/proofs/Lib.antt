@@ -3,3 +3,4 @@ pub mod Views
 pub mod Seats
 pub mod Steps
 pub mod Passes
+pub mod Rules

@@ -3,3 +3,4 @@ pub mod View
 pub mod Rule
 pub mod Plays
 pub mod Cell
+pub mod Laws

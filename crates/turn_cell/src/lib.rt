@@ -7,6 +7,7 @@
 
 mod cell;
 mod diary;
+mod laws;
 mod list;
 mod pass;
 mod plays;
@@ -18,6 +19,7 @@ mod view;
 
 pub use cell::TurnCell;
 pub use diary::{Diary, note};
+pub use laws::rule_of_a_cell;
 pub use list::PassList;
 pub use pass::Pass;
 pub use stands::Stands;

@@ -4,3 +4,4 @@ pub mod Seats
 pub mod Steps
 pub mod Passes
 pub mod Rules
+pub mod Facts

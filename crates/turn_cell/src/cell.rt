@@ -9,7 +9,6 @@ use crate::view::{TurnRule, View};
 use atomic_table::{Badge, Seat, Table};
 use std::alloc::{AllocError, Global};
 use std::sync::{Mutex, Wait};
-use std::thread::Threads;
 use std::{hint, mem};
 
 /// How often a thread looks before it sleeps.
@@ -35,7 +34,7 @@ impl<V: Stands> TurnCell<V> {
     ///
     /// # Errors
     /// Want of memory. The value is then dropped.
-    pub fn new<R: Threads + Wait + Sync>(
+    pub fn new<R>(
         _rt: &R,
         alloc: Global,
         value: V,
@@ -101,11 +100,7 @@ impl<V: Stands> TurnCell<V> {
     }
 
     /// Waits for a turn. The value stands for what the pass had seen, followed by entries of other passes.
-    pub fn take<'c, R: Threads + Wait + Sync>(
-        &'c self,
-        rt: &R,
-        pass: &mut Pass<V::Entry>,
-    ) -> Turn<'c, V>
+    pub fn take<'c, R: Wait>(&'c self, rt: &R, pass: &mut Pass<V::Entry>) -> Turn<'c, V>
         requires { IsOf self.now pass.old }
         ensures cell { cell_of result ≡ self.now }
         ensures turn { IsTaken result }

@@ -7,7 +7,6 @@ use crate::pass::Pass;
 use crate::stands::Stands;
 use std::alloc::{AllocError, Global};
 use std::sync::Wait;
-use std::thread::Threads;
 
 /// A value that keeps its whole history. Each entry is the number of the pass that made it, and a number that it noted.
 #[derive(Drop)]
@@ -36,7 +35,7 @@ impl Diary {
 ///
 /// # Errors
 /// Want of memory. Nothing is noted, and the pass has seen what it had seen and entries of other passes.
-pub fn note<R: Threads + Wait + Sync>(
+pub fn note<R: Wait>(
     rt: &R,
     cell: &TurnCell<Diary>,
     pass: &mut Pass<u64>,

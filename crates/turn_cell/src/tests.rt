@@ -1,7 +1,7 @@
 ghost use Rattle.std.specs.Prelude.{◌≡◌, ℕ, [], ◌∷◌, All, IfSome};
 ghost use Rattle.turn_cell.specs.Cell.{number_of, numbers_of, seen_of, IsOf};
 
-use crate::{Diary, Pass, PassList, TurnCell, note};
+use crate::{Diary, Pass, PassList, TurnCell, note, rule_of_a_cell};
 use std::alloc::Global;
 use std::sync::Wait;
 use std::test::Fail;
@@ -217,5 +217,6 @@ fn a_list_of_passes_is_a_list(rt: HostRuntime) -> Result<(), Fail> {
     }
     assert!(rt; other.into_vec().len() == 1 && list.len() == 1);
     drop(cell);
+    rule_of_a_cell::<Diary>();
     Ok(())
 }

@@ -8,7 +8,7 @@ work_all-requires-after_bounds g c κs b =
     let cell = c.in_ok-cell.cell in
     All-same (λ p. IsOf cell p) _ _ c.into_vec.ensures (All-pop (λ p. IsOf cell p) _ _ (Some c.in-Some.last) c.in-Some.ensures c.in_ok-cell.ensures.cell).0
 
-pub take-turn-requires-after_bounds : goal.take-turn-requires-after_bounds
-take-turn-requires-after_bounds g c κs b =
+pub take-turn-requires : goal.take-turn-requires
+take-turn-requires g c =
     let cell = c.in_ok-cell.cell in
     (All-pop (λ p. IsOf cell p) _ _ (Some c.in-Some.last) c.in-Some.ensures c.in_ok-cell.ensures.cell).1

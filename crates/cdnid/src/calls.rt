@@ -1,6 +1,6 @@
 //! Each call of the lower crates once, where there is memory, against values from outside.
 
-use cdni_base::{Endpoint, EndpointFault, Limits, Rule};
+use cdni_base::{Endpoint, EndpointFault, Limits, Rule, Scratch};
 use json_read::{
     FieldCause, JsonFault, JsonPath, ParseFault, flag_at, list_at, maybe, need, parse, text_at,
     whole_at,
@@ -98,6 +98,65 @@ fn rules_and_limits(rt: HostRuntime) -> Result<(), Fail> {
     assert_eq!(rt; Rule::NoHost.status(), 404);
     assert_eq!(rt; Rule::NoSource.status(), 503);
     assert_eq!(rt; Limits::standard().period, 60000);
+    Ok(())
+}
+
+#[test]
+fn scratches(rt: HostRuntime) -> Result<(), Fail> {
+    let mut out = Scratch::new(rt.alloc(), 10)?;
+    assert!(rt; out.append(b"abc"));
+    assert!(rt; out.append_number(65535));
+    assert!(rt; !out.append_two(b"d", b"ef"));
+    assert_eq!(rt; out.bytes(), b"abc65535".as_slice());
+    assert!(rt; out.append_two(b"d", b"e"));
+    assert!(rt; !out.append_number(0));
+    assert_eq!(rt; out.bytes(), b"abc65535de".as_slice());
+    out.truncate(2);
+    assert_eq!(rt; out.bytes(), b"ab".as_slice());
+    out.clear();
+    assert!(rt; out.bytes().is_empty());
+    Ok(())
+}
+
+#[test]
+fn texts_of_rules(rt: HostRuntime) -> Result<(), Fail> {
+    let alloc = rt.alloc();
+    let mut out = Scratch::new(alloc, 24)?;
+    for (rule, text) in [
+        (Rule::Method, Some("method")),
+        (Rule::NoMetadata, Some("no-metadata")),
+        (
+            Rule::MetadataInvalid { trigger: 7 },
+            Some("metadata-invalid 7"),
+        ),
+        (Rule::MetadataInvalid { trigger: 12345678 }, None),
+        (Rule::NoHost, Some("no-host")),
+        (
+            Rule::Unenforceable {
+                kind: Text::of(alloc, b"mi.x")?,
+            },
+            Some("unenforceable mi.x"),
+        ),
+        (
+            Rule::Unenforceable {
+                kind: Text::of(alloc, b"mi.too-long")?,
+            },
+            None,
+        ),
+        (Rule::Location { rule: Some(0) }, Some("location 0")),
+        (Rule::Time { rule: None }, Some("time -")),
+        (
+            Rule::Protocol {
+                rule: Some(4294967295),
+            },
+            Some("protocol 4294967295"),
+        ),
+        (Rule::NoSource, Some("no-source")),
+    ] {
+        out.clear();
+        assert_eq!(rt; rule.put(&mut out), text.is_some());
+        assert_eq!(rt; out.bytes(), text.unwrap_or("").as_bytes());
+    }
     Ok(())
 }
 

@@ -62,8 +62,8 @@ impl Pattern {
         })
     }
 
-    /// Whether the pattern matches the whole text, in at most as many steps as the text has bytes times the
-    /// pattern's, and with no memory.
+    /// Whether the pattern matches the whole text (RFC 8006, section 4.1.5). It takes no memory. No clause bounds its
+    /// steps; a test shows that many `*` do not multiply them.
     pub fn matches(&self, text: &[u8]) -> bool
         ensures relation { IsTrue result ↔ Matches self.now text.now }
         ensures value { result ≡ is_match self.now text.now }

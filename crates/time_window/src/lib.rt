@@ -1,0 +1,8 @@
+//! Lists of time windows, by which an upstream CDN says when a delivery is allowed (RFC 8006, section 4.2.3).
+#![tactic(auto)]
+
+mod acl;
+#[cfg(test)]
+mod tests;
+
+pub use acl::{Moment, TimeRule, TimeRuleList, TimeWindow, TimeWindowAcl, TimeWindowList};

@@ -1,5 +1,5 @@
 -- What a list of rules answers: the first rule whose test holds decides (RFC 8006, sections 4.2.2 to 4.2.4).
-use Rattle.std.specs.Prelude.{ℕ, ◌+◌, Bool, true, false, List, [], ◌∷◌, None, Some, if◌then◌else◌}
+use Rattle.std.specs.Prelude.{ℕ, ◌+◌, ◌^◌, ◌<◌, Bool, true, false, List, [], ◌∷◌, length, None, Some, if◌then◌else◌}
 use Rattle.std.specs.declared.option.Option.{Option}
 
 module _ {Rule : Type 0} where
@@ -13,3 +13,8 @@ module _ {Rule : Type 0} where
   abbrev pub first_match : (Rule → Bool) → (Rule → Bool) → Option (List Rule) → Bool × Option ℕ
   first_match holds allows None = (true, None)
   first_match holds allows (Some rules) = first_from holds allows 1 rules
+
+  -- rules that are there have numbers below 2 ^ 32
+  abbrev pub AreNumbered : Option (List Rule) → Type 0
+  AreNumbered None = Unit {0}
+  AreNumbered (Some rules) = length rules < 2 ^ 32

@@ -1,5 +1,5 @@
 -- When a list of protocols allows a delivery (RFC 8006, section 4.2.4).
-use Rattle.std.specs.Prelude.{ℕ, ◌^◌, ◌<◌, Bool, List, length, None, Some}
+use Rattle.std.specs.Prelude.{ℕ, Bool, List}
 use Rattle.std.specs.List.{list_any}
 use Rattle.std.specs.Str.{str_eq_ignore_ascii_case}
 use Rattle.std.specs.declared.option.Option.{Option}
@@ -13,8 +13,3 @@ names protocol rule = list_any (λ name. str_eq_ignore_ascii_case name protocol)
 -- the first rule that names the protocol decides
 abbrev pub decided : Option (List ProtocolRule) → List ℕ → Bool × Option ℕ
 decided rules protocol = first_match (names protocol) (λ rule. rule.allow) rules
-
--- the rules have numbers below 2 ^ 32
-abbrev pub AreNumbered : Option (List ProtocolRule) → Type 0
-AreNumbered None = Unit {0}
-AreNumbered (Some rules) = length rules < 2 ^ 32

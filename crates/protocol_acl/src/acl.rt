@@ -1,7 +1,8 @@
 //! Rules of protocols, and what they decide.
 
 ghost use Rattle.std.specs.Prelude.{◌≡◌, ◌↔◌, IfSome, IsSome};
-ghost use Rattle.protocol_acl.specs.Acl.{names, decided, AreNumbered};
+ghost use Rattle.listing.specs.FirstMatch.{AreNumbered};
+ghost use Rattle.protocol_acl.specs.Acl.{names, decided};
 
 use listing::{Listing, Text};
 use std::marker::Model;
@@ -30,7 +31,7 @@ impl Model for ProtocolAcl {
     ghost use Rattle.std.specs.Prelude.{List};
     ghost use Rattle.std.specs.declared.option.Option.{Option};
     ghost use Rattle.protocol_acl.specs.declared.acl.ProtocolRule.{ProtocolRule};
-    ghost use Rattle.protocol_acl.specs.Acl.{AreNumbered};
+    ghost use Rattle.listing.specs.FirstMatch.{AreNumbered};
 
     ghost Value = { Option (List ProtocolRule) };
 

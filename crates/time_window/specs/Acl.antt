@@ -1,5 +1,5 @@
 -- When a list of time windows allows a delivery (RFC 8006, section 4.2.3).
-use Rattle.std.specs.Prelude.{ℕ, ◌/◌, ◌^◌, ◌<◌, Bool, ◌&&◌, nat_lt, nat_le, List, length, None, Some}
+use Rattle.std.specs.Prelude.{ℕ, ◌/◌, Bool, ◌&&◌, nat_lt, nat_le, List}
 use Rattle.std.specs.List.{list_any}
 use Rattle.std.specs.declared.option.Option.{Option}
 use Rattle.listing.specs.FirstMatch.{first_match}
@@ -17,8 +17,3 @@ holds_moment moment rule = list_any (holds_second (moment / 1000)) rule.windows
 -- the first rule that holds the moment decides
 abbrev pub decided : Option (List TimeRule) → ℕ → Bool × Option ℕ
 decided rules moment = first_match (holds_moment moment) (λ rule. rule.allow) rules
-
--- the rules have numbers below 2 ^ 32
-abbrev pub AreNumbered : Option (List TimeRule) → Type 0
-AreNumbered None = Unit {0}
-AreNumbered (Some rules) = length rules < 2 ^ 32

@@ -2,7 +2,8 @@
 
 ghost use Rattle.std.specs.Prelude.{◌≡◌, ◌↔◌, IfSome, IsSome};
 ghost use Rattle.std.specs.List.{list_any};
-ghost use Rattle.time_window.specs.Acl.{holds_second, decided, AreNumbered};
+ghost use Rattle.listing.specs.FirstMatch.{AreNumbered};
+ghost use Rattle.time_window.specs.Acl.{holds_second, decided};
 
 use listing::Listing;
 use std::marker::Model;
@@ -41,7 +42,7 @@ impl Model for TimeWindowAcl {
     ghost use Rattle.std.specs.Prelude.{List};
     ghost use Rattle.std.specs.declared.option.Option.{Option};
     ghost use Rattle.time_window.specs.declared.acl.TimeRule.{TimeRule};
-    ghost use Rattle.time_window.specs.Acl.{AreNumbered};
+    ghost use Rattle.listing.specs.FirstMatch.{AreNumbered};
 
     ghost Value = { Option (List TimeRule) };
 

@@ -3,12 +3,14 @@
 #![tactic(auto)]
 
 mod endpoint;
+mod key;
 mod limits;
 mod rule;
 mod scratch;
 mod target;
 
 pub use endpoint::{Endpoint, EndpointFault, EndpointList, HostName};
+pub use key::Ignored;
 pub use limits::Limits;
 pub use listing::{Listing, Text, TextList};
 pub use rule::Rule;

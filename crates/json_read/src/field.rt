@@ -49,7 +49,6 @@ pub fn maybe<'a>(
     path: &JsonPath,
     name: &str,
 ) -> Result<Option<&'a Value>, JsonFault>
-    requires { IsName name.now }
     ensures { Gives (λ found. option_map (λ v. view v.now) found) result (looked_up path.now name.now (view value.now)) }
 {
     if !value.is_object() {

@@ -9,9 +9,9 @@ use Rattle.serde_json.specs.declared.value.Value.{Value}
 use Rattle.json_read.specs.Field.{◌>>=◌}
 use Rattle.json_read.specs.Path.{item_of}
 use Rattle.metadata_objects.specs.Reading.{Reading, all_of, Fails}
-use Rattle.metadata_objects.specs.Source.{each_of}
+use Rattle.metadata_objects.specs.Items.{each_of}
 use Rattle.metadata_objects.specs.declared.fault.MetaFault.{MetaFault}
-use Rattle.metadata_objects.specs.declared.fault.MetaFault.TheVariants.{TooLong, NotJson, Link, Field, TooMany, Memory}
+use Rattle.metadata_objects.specs.declared.fault.MetaFault.TheVariants.{TooLong, NotJson, Link, Field, TooMany, TooDeep, Memory}
 
 -- the items from the i-th on are the i-th and those after it
 item_here : (values : List Value) (i : ℕ) (value : Value) → i < length values → value ≡ get_or values i value
@@ -37,6 +37,7 @@ fails_on NotJson one all step is = step is
 fails_on (Link path) one all step is = step is
 fails_on (Field fault) one all step is = step is
 fails_on (TooMany n) one all step is = step is
+fails_on (TooDeep n) one all step is = step is
 fails_on Memory one all step is = tt
 
 front_moves : {A : Type 0} (front : List A) (x : A) (rest : Reading (List A × ℕ))

@@ -4,16 +4,12 @@ use Rattle.std.specs.List.{sum_by}
 use Rattle.std.specs.Option.{option_map, option_and_then, is_some}
 use Rattle.std.specs.Result.{result_ok}
 use Rattle.std.specs.declared.option.Option.{Option}
-use Rattle.serde_json.specs.Data.{Data, Items, no_items, item}
+use Rattle.serde_json.specs.Data.{Data}
 use Rattle.serde_json.specs.Find.{get, as_str, as_array, as_object}
 use Rattle.cdni_base.specs.Endpoint.{endpoint_of}
 use Rattle.cdni_base.specs.declared.endpoint.Endpoint.{Endpoint}
 use Rattle.cdni_base.specs.declared.target.SourceItem.{SourceItem}
-
--- each item, where all of them read
-unfoldable pub each_of : {A : Type 0} → (Data → Option A) → Items → Option (List A)
-each_of read no_items = Some []
-each_of read (item value values) = option_and_then (λ first. option_map (λ others. first ∷ others) (each_of read values)) (read value)
+use Rattle.metadata_objects.specs.Items.{each_of}
 
 -- an endpoint (RFC 8006, section 4.3.3)
 unfoldable pub endpoint_in : Data → Option Endpoint

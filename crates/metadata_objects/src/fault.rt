@@ -16,6 +16,8 @@ pub enum MetaFault {
     Field(FieldFault),
     /// There are more than 10,000 objects; `n` is 10,001.
     TooMany { n: usize },
+    /// PathMatch objects nest more than 16 levels deep; `n` is 17.
+    TooDeep { n: usize },
     /// Want of memory.
     Memory,
 }

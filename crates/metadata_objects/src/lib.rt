@@ -4,6 +4,7 @@
 mod fault;
 mod generic;
 mod host;
+mod items;
 mod object;
 mod source;
 

@@ -1,10 +1,11 @@
 //! The value of MI.SourceMetadata (RFC 8006, section 4.2.1).
 
 ghost use Rattle.std.specs.Prelude.{◌≡◌, IfOk, nat_le};
-ghost use Rattle.serde_json.specs.View.{view, items_view};
-ghost use Rattle.metadata_objects.specs.Source.{each_of, endpoint_in, source_in, sources_in, listed_sources, few_sources, endpoint_count};
+ghost use Rattle.serde_json.specs.View.{view};
+ghost use Rattle.metadata_objects.specs.Source.{endpoint_in, source_in, sources_in, listed_sources, few_sources, endpoint_count};
 
-use cdni_base::{Endpoint, EndpointFault, EndpointList, Listing, SourceItem, SourceItemList, Text};
+use crate::items::{Item, each};
+use cdni_base::{Endpoint, EndpointFault, Listing, SourceItem, SourceItemList, Text};
 use json_read::Value;
 use std::alloc::{AllocError, Global};
 
@@ -22,7 +23,7 @@ pub(crate) fn sources_of(alloc: Global, value: &Value) -> Result<Option<SourceIt
     let Some(items) = list.as_array() else {
         return Ok(None);
     };
-    match each_source(alloc, items)? {
+    match each::<SourceItem>(alloc, items)? {
         Some(sources) => Ok(few(sources)),
         None => Ok(None),
     }
@@ -53,19 +54,6 @@ fn count_endpoints(sources: &SourceItemList) -> usize
     count
 }
 
-fn each_source(alloc: Global, items: &[Value]) -> Result<Option<SourceItemList>, AllocError>
-    ensures { IfOk result (λ found. found ≡ each_of source_in (items_view items.now)) }
-{
-    let mut list = Listing::new(alloc);
-    'items: for i in 0..items.len() {
-        let Some(source) = source_of(alloc, &items[i])? else {
-            return Ok(None);
-        };
-        list.push(source)?;
-    }
-    Ok(Some(list))
-}
-
 #[tactic(auto, unfolding(crate::specs::Source::source_in))]
 fn source_of(alloc: Global, value: &Value) -> Result<Option<SourceItem>, AllocError>
     ensures { IfOk result (λ found. found ≡ source_in (view value.now)) }
@@ -79,26 +67,13 @@ fn source_of(alloc: Global, value: &Value) -> Result<Option<SourceItem>, AllocEr
     let Some(items) = value.get("endpoints").and_then(Value::as_array) else {
         return Ok(None);
     };
-    let Some(endpoints) = each_endpoint(alloc, items)? else {
+    let Some(endpoints) = each::<Endpoint>(alloc, items)? else {
         return Ok(None);
     };
     Ok(Some(SourceItem {
         protocol: Text::of(alloc, protocol.as_bytes())?,
         endpoints,
     }))
-}
-
-fn each_endpoint(alloc: Global, items: &[Value]) -> Result<Option<EndpointList>, AllocError>
-    ensures { IfOk result (λ found. found ≡ each_of endpoint_in (items_view items.now)) }
-{
-    let mut list = Listing::new(alloc);
-    'items: for i in 0..items.len() {
-        let Some(endpoint) = endpoint_of(alloc, &items[i])? else {
-            return Ok(None);
-        };
-        list.push(endpoint)?;
-    }
-    Ok(Some(list))
 }
 
 #[tactic(auto, unfolding(crate::specs::Source::endpoint_in))]
@@ -112,5 +87,25 @@ fn endpoint_of(alloc: Global, value: &Value) -> Result<Option<Endpoint>, AllocEr
         Ok(endpoint) => Ok(Some(endpoint)),
         Err(EndpointFault::Memory) => Err(AllocError),
         Err(_) => Ok(None),
+    }
+}
+
+impl Item for SourceItem {
+    ghost use Rattle.metadata_objects.specs.Source.{source_in};
+
+    ghost reads = { source_in };
+
+    fn read_item(alloc: Global, value: &Value) -> Result<Option<SourceItem>, AllocError> {
+        source_of(alloc, value)
+    }
+}
+
+impl Item for Endpoint {
+    ghost use Rattle.metadata_objects.specs.Source.{endpoint_in};
+
+    ghost reads = { endpoint_in };
+
+    fn read_item(alloc: Global, value: &Value) -> Result<Option<Endpoint>, AllocError> {
+        endpoint_of(alloc, value)
     }
 }

@@ -1,0 +1,35 @@
+//! Items of a list that either all read, or the list is not understood.
+
+ghost use Rattle.std.specs.Prelude.{◌≡◌, IfOk};
+ghost use Rattle.serde_json.specs.View.{view, items_view};
+ghost use Rattle.metadata_objects.specs.Items.{each_of};
+
+use cdni_base::Listing;
+use json_read::Value;
+use std::alloc::{AllocError, Global};
+
+/// What one item of a list is read as.
+pub(crate) trait Item: Drop {
+    ghost use Rattle.std.specs.declared.option.Option.{Option};
+    ghost use Rattle.serde_json.specs.Data.{Data};
+
+    ghost reads: { Data → Option Self };
+
+    // the item, if it reads
+    fn read_item(alloc: Global, value: &Value) -> Result<Option<Self>, AllocError>
+        ensures { IfOk result (λ found. found ≡ reads (view value.now)) };
+}
+
+// the items, if each of them reads
+pub(crate) fn each<T: Item>(alloc: Global, items: &[Value]) -> Result<Option<Listing<T>>, AllocError>
+    ensures { IfOk result (λ found. found ≡ each_of T.reads (items_view items.now)) }
+{
+    let mut list = Listing::new(alloc);
+    'items: for i in 0..items.len() {
+        let Some(item) = T::read_item(alloc, &items[i])? else {
+            return Ok(None);
+        };
+        list.push(item)?;
+    }
+    Ok(Some(list))
+}

@@ -7,6 +7,8 @@ use Rattle.serde_json.specs.Data.{Data, Items}
 use Rattle.json_read.specs.Field.{◌>>=◌, needed}
 use Rattle.json_read.specs.Path.{child_of}
 use Rattle.metadata_objects.specs.Reading.{Reading, counted, no_link, needed_text, in_range, field, flag_or, all_of}
+use Rattle.metadata_objects.specs.Cache.{ignored_in, grouping_in}
+use Rattle.metadata_objects.specs.Lists.{times_in, protocols_in}
 use Rattle.metadata_objects.specs.Source.{sources_in}
 use Rattle.metadata_objects.specs.declared.generic.Generic.{Generic}
 use Rattle.metadata_objects.specs.declared.generic.Held.{Held}
@@ -16,9 +18,19 @@ use Rattle.metadata_objects.specs.declared.generic.Held.TheVariants as held
 unfoldable pub kind_of : List ℕ → Option (List ℕ)
 kind_of text = if nat_lt 0 (length text) && nat_le (length text) 127 then Some (str_to_ascii_lowercase text) else None
 
--- what is understood of a value: that of MI.SourceMetadata, where it reads
+-- what was read of a value, or that it is not understood
+abbrev pub held_as : {A : Type 0} → (A → Held) → Option A → Held
+held_as of None = held.NotUnderstood
+held_as of (Some value) = of value
+
+-- what is understood of a value of this type, where it reads
 unfoldable pub understood : List ℕ → Data → Held
-understood kind value = if bytes_eq kind (codes "mi.sourcemetadata") then option_map_or held.Source (sources_in value) held.NotUnderstood else held.NotUnderstood
+understood kind value =
+    if bytes_eq kind (codes "mi.sourcemetadata") then held_as held.Source (sources_in value) else
+    (if bytes_eq kind (codes "mi.timewindowacl") then held_as held.Time (times_in value) else
+    (if bytes_eq kind (codes "mi.protocolacl") then held_as held.Protocol (protocols_in value) else
+    (if bytes_eq kind (codes "mi.cache") then held_as held.Cache (ignored_in value) else
+    (if bytes_eq kind (codes "mi.grouping") then held_as held.Grouping (grouping_in value) else held.NotUnderstood))))
 
 -- what is held of an object; one that says so is not understood
 abbrev pub held_of : Bool → List ℕ → Data → Held

@@ -5,12 +5,16 @@ ghost use Rattle.serde_json.specs.View.{view, items_view};
 ghost use Rattle.metadata_objects.specs.Reading.{Gives};
 ghost use Rattle.metadata_objects.specs.Generic.{kind_of, understood, held_of, generic_of, generics_of};
 
+use crate::cache::{grouping_of, ignored_of};
 use crate::fault::MetaFault;
+use crate::lists::{protocols_of, times_of};
 use crate::object::{flag, one_more, out_of_range, refuse_link, text};
 use crate::source::sources_of;
-use cdni_base::{Listing, SourceItemList, Text};
+use cdni_base::{Ignored, Listing, SourceItemList, Text};
 use json_read::{JsonPath, Value, need};
+use protocol_acl::ProtocolAcl;
 use std::alloc::{AllocError, Global};
+use time_window::TimeWindowAcl;
 
 /// A metadata object of some type.
 #[derive(Drop)]
@@ -30,6 +34,14 @@ pub struct Generic {
 pub enum Held {
     /// MI.SourceMetadata (RFC 8006, section 4.2.1).
     Source(SourceItemList),
+    /// MI.TimeWindowACL (RFC 8006, section 4.2.3).
+    Time(TimeWindowAcl),
+    /// MI.ProtocolACL (RFC 8006, section 4.2.4).
+    Protocol(ProtocolAcl),
+    /// MI.Cache (RFC 8006, section 4.2.6): what does not count of a query.
+    Cache(Ignored),
+    /// MI.Grouping (RFC 8006, section 4.2.8): the ccid, if there is one.
+    Grouping(Option<Text>),
     /// Nothing.
     NotUnderstood,
 }
@@ -105,7 +117,6 @@ fn kind_at(alloc: Global, name: &[u8]) -> Result<Option<Text>, AllocError>
 }
 
 // what is held of a value of this type
-#[tactic(auto, unfolding(crate::specs::Generic::understood))]
 fn held_at(
     alloc: Global,
     incomprehensible: bool,
@@ -114,11 +125,29 @@ fn held_at(
 ) -> Result<Held, AllocError>
     ensures { IfOk result (λ held. held ≡ held_of incomprehensible kind.now (view value.now)) }
 {
-    if incomprehensible || !kind.is(b"mi.sourcemetadata") {
+    if incomprehensible {
         return Ok(Held::NotUnderstood);
     }
-    match sources_of(alloc, value)? {
-        Some(sources) => Ok(Held::Source(sources)),
-        None => Ok(Held::NotUnderstood),
-    }
+    understand(alloc, kind, value)
+}
+
+// what is understood of a value of this type
+#[tactic(auto, unfolding(crate::specs::Generic::understood))]
+fn understand(alloc: Global, kind: &Text, value: &Value) -> Result<Held, AllocError>
+    ensures { IfOk result (λ held. held ≡ understood kind.now (view value.now)) }
+{
+    let held = if kind.is(b"mi.sourcemetadata") {
+        sources_of(alloc, value)?.map(Held::Source)
+    } else if kind.is(b"mi.timewindowacl") {
+        times_of(alloc, value)?.map(Held::Time)
+    } else if kind.is(b"mi.protocolacl") {
+        protocols_of(alloc, value)?.map(Held::Protocol)
+    } else if kind.is(b"mi.cache") {
+        ignored_of(alloc, value)?.map(Held::Cache)
+    } else if kind.is(b"mi.grouping") {
+        grouping_of(alloc, value)?.map(Held::Grouping)
+    } else {
+        None
+    };
+    Ok(held.unwrap_or(Held::NotUnderstood))
 }

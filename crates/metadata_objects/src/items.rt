@@ -2,9 +2,9 @@
 
 ghost use Rattle.std.specs.Prelude.{◌≡◌, IfOk};
 ghost use Rattle.serde_json.specs.View.{view, items_view};
-ghost use Rattle.metadata_objects.specs.Items.{each_of};
+ghost use Rattle.metadata_objects.specs.Items.{each_of, name_in};
 
-use cdni_base::Listing;
+use cdni_base::{Listing, Text};
 use json_read::Value;
 use std::alloc::{AllocError, Global};
 
@@ -32,4 +32,24 @@ pub(crate) fn each<T: Item>(alloc: Global, items: &[Value]) -> Result<Option<Lis
         list.push(item)?;
     }
     Ok(Some(list))
+}
+
+#[tactic(auto, unfolding(crate::specs::Items::name_in))]
+fn name_of(alloc: Global, value: &Value) -> Result<Option<Text>, AllocError>
+    ensures { IfOk result (λ found. found ≡ name_in (view value.now)) }
+{
+    match value.as_str() {
+        Some(name) => Ok(Some(Text::of(alloc, name.as_bytes())?)),
+        None => Ok(None),
+    }
+}
+
+impl Item for Text {
+    ghost use Rattle.metadata_objects.specs.Items.{name_in};
+
+    ghost reads = { name_in };
+
+    fn read_item(alloc: Global, value: &Value) -> Result<Option<Text>, AllocError> {
+        name_of(alloc, value)
+    }
 }

@@ -1,10 +1,12 @@
 //! The metadata objects of RFC 8006: a HostIndex is read whole, or refused with the exact place of its first fault.
 #![tactic(auto)]
 
+mod cache;
 mod fault;
 mod generic;
 mod host;
 mod items;
+mod lists;
 mod object;
 mod source;
 

@@ -2,6 +2,8 @@ pub mod Cache
 pub mod Generic
 pub mod Host
 pub mod Items
+pub mod Level
 pub mod Lists
 pub mod Reading
 pub mod Source
+pub mod Tree

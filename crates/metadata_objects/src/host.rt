@@ -1,17 +1,20 @@
-//! HostIndex, HostMatch and HostMetadata (RFC 8006, sections 4.1.1 to 4.1.3).
+//! HostIndex and HostMatch (RFC 8006, sections 4.1.1 and 4.1.2).
 
 ghost use Rattle.std.specs.Prelude.{◌≡◌};
 ghost use Rattle.serde_json.specs.View.{view, items_view};
-ghost use Rattle.json_read.specs.Path.{IsName};
 ghost use Rattle.metadata_objects.specs.Reading.{Gives};
-ghost use Rattle.metadata_objects.specs.Host.{metadata_of, level_of, needed_level, host_match_of, hosts_of};
+ghost use Rattle.metadata_objects.specs.Host.{host_match_of, hosts_of};
+ghost use Rattle.metadata_objects.specs.Tree.{host_view, hosts_view};
 
 use crate::fault::MetaFault;
-use crate::generic::{GenericList, generics_at};
+use crate::level::{Level, level_at_member};
 use crate::object::{one_more, out_of_range, refuse_link, text};
 use cdni_base::{Endpoint, EndpointFault, Listing};
-use json_read::{JsonPath, ParseFault, Value, list_at, maybe, need, parse};
+use json_read::{JsonPath, ParseFault, Value, list_at, need, parse};
 use std::alloc::Global;
+
+/// How many PathMatch objects may nest.
+const NESTING: u32 = 16;
 
 /// The hosts of a metadata tree, in order (RFC 8006, section 4.1.1).
 #[derive(Drop)]
@@ -26,17 +29,12 @@ pub struct HostMatch {
     pub level: Level,
 }
 
-/// The metadata of one level (RFC 8006, section 4.1.3).
-#[derive(Drop)]
-pub struct Level {
-    pub metadata: GenericList,
-}
-
 /// A list of hosts.
 pub type HostMatchList = Listing<HostMatch>;
 
 impl HostIndex {
     ghost use Rattle.metadata_objects.specs.Host.{host_index_of, host_index_of_text};
+    ghost use Rattle.metadata_objects.specs.Tree.{index_view};
 
     /// Reads the HostIndex of a JSON text of at most 8,388,608 bytes.
     ///
@@ -44,7 +42,7 @@ impl HostIndex {
     /// The first fault in the order of reading, or want of memory.
     #[tactic(auto, unfolding(crate::specs::Host::host_index_of_text))]
     pub fn read(alloc: Global, bytes: &[u8]) -> Result<HostIndex, MetaFault>
-        ensures { Gives (λ index. index) result (host_index_of_text bytes.now) }
+        ensures { Gives (λ index. index_view index) result (host_index_of_text bytes.now) }
     {
         if bytes.len() > 8388608 {
             return Err(MetaFault::TooLong { len: bytes.len() });
@@ -62,7 +60,7 @@ impl HostIndex {
     /// The first fault in the order of reading, or want of memory.
     #[tactic(auto, unfolding(crate::specs::Host::host_index_of))]
     pub fn of_value(alloc: Global, value: &Value) -> Result<HostIndex, MetaFault>
-        ensures { Gives (λ index. index) result (host_index_of (view value.now)) }
+        ensures { Gives (λ index. index_view index) result (host_index_of (view value.now)) }
     {
         let root = JsonPath::root(alloc);
         let list = need(alloc, value, &root, "hosts")?;
@@ -80,7 +78,7 @@ fn hosts_at(
     path: &JsonPath,
     count: u32,
 ) -> Result<(HostMatchList, u32), MetaFault>
-    ensures { Gives (λ x. (x.0, x.1)) result (hosts_of path.now count (items_view items.now)) }
+    ensures { Gives (λ x. (hosts_view x.0, x.1)) result (hosts_of path.now count (items_view items.now)) }
 {
     let mut list = Listing::new(alloc);
     let mut so_far = count;
@@ -101,7 +99,7 @@ fn host_match_at(
     path: &JsonPath,
     count: u32,
 ) -> Result<(HostMatch, u32), MetaFault>
-    ensures { Gives (λ x. (x.0, x.1)) result (host_match_of path.now count (view value.now)) }
+    ensures { Gives (λ x. (host_view x.0, x.1)) result (host_match_of path.now count (view value.now)) }
 {
     let count = one_more(count)?;
     refuse_link(alloc, value, path)?;
@@ -111,58 +109,6 @@ fn host_match_at(
         Err(EndpointFault::Memory) => return Err(MetaFault::Memory),
         Err(_) => return Err(out_of_range(alloc, path, "host")),
     };
-    let (level, count) = level_at_member(alloc, value, path, "host-metadata", count)?;
+    let (level, count) = level_at_member(alloc, value, path, "host-metadata", NESTING, count)?;
     Ok((HostMatch { host, level }, count))
-}
-
-// the HostMetadata at the property `name` of the object at `path`, after `count` objects
-#[tactic(auto, unfolding(crate::specs::Host::needed_level))]
-fn level_at_member(
-    alloc: Global,
-    value: &Value,
-    path: &JsonPath,
-    name: &str,
-    count: u32,
-) -> Result<(Level, u32), MetaFault>
-    requires { IsName name.now }
-    ensures { Gives (λ x. (x.0, x.1)) result (needed_level path.now name.now count (view value.now)) }
-{
-    let member = need(alloc, value, path, name)?;
-    level_at(alloc, member, &path.child(alloc, name)?, count)
-}
-
-// the HostMetadata at `path`, after `count` objects
-#[tactic(auto, unfolding(crate::specs::Host::level_of))]
-fn level_at(
-    alloc: Global,
-    value: &Value,
-    path: &JsonPath,
-    count: u32,
-) -> Result<(Level, u32), MetaFault>
-    ensures { Gives (λ x. (x.0, x.1)) result (level_of path.now count (view value.now)) }
-{
-    refuse_link(alloc, value, path)?;
-    let (metadata, count) = metadata_at(alloc, value, path, count)?;
-    if value.get("paths").is_some() {
-        return Err(out_of_range(alloc, path, "paths"));
-    }
-    Ok((Level { metadata }, count))
-}
-
-// the objects of the property `metadata` of the object at `path`, after `count` objects
-#[tactic(auto, unfolding(crate::specs::Host::metadata_of))]
-fn metadata_at(
-    alloc: Global,
-    value: &Value,
-    path: &JsonPath,
-    count: u32,
-) -> Result<(GenericList, u32), MetaFault>
-    ensures { Gives (λ x. (x.0, x.1)) result (metadata_of path.now count (view value.now)) }
-{
-    let Some(list) = maybe(alloc, value, path, "metadata")? else {
-        return Ok((Listing::new(alloc), count));
-    };
-    let path = path.child(alloc, "metadata")?;
-    let items = list_at(alloc, list, &path)?;
-    generics_at(alloc, items, &path, count)
 }

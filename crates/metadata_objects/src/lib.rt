@@ -6,10 +6,12 @@ mod fault;
 mod generic;
 mod host;
 mod items;
+mod level;
 mod lists;
 mod object;
 mod source;
 
 pub use fault::MetaFault;
 pub use generic::{Generic, GenericList, Held};
-pub use host::{HostIndex, HostMatch, HostMatchList, Level};
+pub use host::{HostIndex, HostMatch, HostMatchList};
+pub use level::{Level, PathMatch, PathMatchList};

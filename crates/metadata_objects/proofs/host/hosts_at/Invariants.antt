@@ -2,8 +2,9 @@ use Rattle.std.proofs.Common.{◌≡◌, drop}
 use Rattle.serde_json.specs.View.{items_view}
 use Rattle.metadata_objects.specs.Reading.{all_of}
 use Rattle.metadata_objects.specs.Host.{host_match_of, hosts_of}
+use Rattle.metadata_objects.specs.Tree.{hosts_view}
 use Rattle.metadata_objects.proofs.Loops.{with_front}
 use Rattle.metadata_objects.proofs.host.hosts_at.Given as goal
 
 abbrev pub invariant-items : goal.invariant-items
-invariant-items l = with_front l.list (all_of host_match_of l.path l.i l.so_far (items_view (drop l.i l.items))) ≡ hosts_of l.path l.count (items_view l.items)
+invariant-items l = with_front (hosts_view l.list) (all_of host_match_of l.path l.i l.so_far (items_view (drop l.i l.items))) ≡ hosts_of l.path l.count (items_view l.items)

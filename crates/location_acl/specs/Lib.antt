@@ -1,0 +1,5 @@
+pub mod Groups
+pub mod Reading
+pub mod Block
+pub mod Footprint
+pub mod Acl

@@ -1,0 +1,16 @@
+//! Lists of places, by which an upstream CDN says where a delivery is allowed (RFC 8006, section 4.2.2), and the
+//! addresses, blocks and footprints that they are made of.
+#![tactic(auto)]
+
+mod acl;
+mod block;
+mod dotted;
+mod footprint;
+mod groups;
+mod ip;
+mod six;
+
+pub use acl::{FootprintList, LocationAcl, LocationRule, LocationRuleList};
+pub use block::{Block, BlockFault};
+pub use footprint::{Footprint, Place};
+pub use ip::{AddressFault, Ip};

@@ -2,3 +2,4 @@ pub mod Endpoint
 pub mod Limits
 pub mod Rule
 pub mod Scratch
+pub mod Target

@@ -13,4 +13,4 @@ pub use limits::Limits;
 pub use listing::{Listing, Text, TextList};
 pub use rule::Rule;
 pub use scratch::Scratch;
-pub use target::{Asked, Protocol, SourceItem, SourceItemList, Target};
+pub use target::{Asked, Protocol, SourceItem, SourceItemList, Target, TargetFault};

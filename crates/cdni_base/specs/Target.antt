@@ -1,5 +1,5 @@
 -- Targets: what a URL names (RFC 3986, section 3; RFC 9112, section 3.2), read by computing the value or the first fault.
-use Rattle.std.specs.Prelude.{◌≡◌, ℕ, ◌+◌, ◌-◌, Bool, true, false, List, [], ◌∷◌, length, take, drop, slice_index, None, Some, Ok, Err, codes, bytes_eq, ◌==◌, ◌&&◌, ◌||◌, nat_lt, if◌then◌else◌}
+use Rattle.std.specs.Prelude.{◌≡◌, ℕ, ◌+◌, ◌-◌, Bool, true, false, List, [], ◌∷◌, ◌++◌, length, take, drop, slice_index, None, Some, Ok, Err, codes, decimal, bytes_eq, ◌==◌, ◌&&◌, ◌||◌, nat_lt, if◌then◌else◌}
 use Rattle.std.specs.List.{prefix_len}
 use Rattle.std.specs.Option.{option_map_or}
 use Rattle.std.specs.Char.{is_ascii_hexdigit, is_ascii_alphanumeric}
@@ -10,6 +10,7 @@ use Rattle.listing.specs.Word.{parts_at}
 use Rattle.cdni_base.specs.declared.endpoint.Endpoint.{Endpoint}
 use Rattle.cdni_base.specs.declared.endpoint.EndpointFault.{EndpointFault}
 use Rattle.cdni_base.specs.declared.endpoint.EndpointFault.TheVariants as endpoint_fault
+use Rattle.cdni_base.specs.declared.endpoint.HostName.{HostName}
 use Rattle.cdni_base.specs.declared.target.Protocol.{Protocol}
 use Rattle.cdni_base.specs.declared.target.Protocol.TheVariants.{Http, Https}
 use Rattle.cdni_base.specs.declared.target.Target.{Target}
@@ -129,3 +130,25 @@ Reads reading (Err fault) = reading ≡ Err fault
 -- a reader of targets answers the reading of the text, or finds no memory
 abbrev pub ReadsTarget : List ℕ → Option (List ℕ) → Bool → Result Target TargetFault → Type 0
 ReadsTarget text host secure result = Reads (target_of text host secure) result
+
+-- `https://` where the URL is secure, and else `http://`
+abbrev pub scheme_text : Bool → List ℕ
+scheme_text true = codes "https://"
+scheme_text false = codes "http://"
+
+-- `:` and the port, where it is not 80
+abbrev pub port_text : ℕ → List ℕ
+port_text port = if port == 80 then [] else 58 ∷ decimal port
+
+-- `?` and the query, where there is one
+abbrev pub query_text : Option (List ℕ) → List ℕ
+query_text None = []
+query_text (Some query) = 63 ∷ query
+
+-- the URL that is made of these parts (RFC 3986, section 5.3)
+abbrev pub url_of : Bool → HostName → ℕ → List ℕ → Option (List ℕ) → List ℕ
+url_of secure host port path query = scheme_text secure ++ host.0 ++ port_text port ++ path ++ query_text query
+
+-- the URL of a target
+abbrev pub url_text : Bool → Target → List ℕ
+url_text secure target = url_of secure target.host target.port target.path target.query

@@ -3,12 +3,15 @@
 #![tactic(auto)]
 
 mod endpoint;
+mod key;
 mod limits;
 mod rule;
 mod scratch;
 mod target;
+mod url;
 
 pub use endpoint::{Endpoint, EndpointFault, EndpointList, HostName};
+pub use key::{Ignored, Key, url_key};
 pub use limits::Limits;
 pub use listing::{Listing, Text, TextList};
 pub use rule::Rule;

@@ -2,10 +2,11 @@
 
 ghost use Rattle.std.specs.Prelude.{◌≡◌, ◌≤◌, ◌+◌, ℕ, length, take, drop, slice_index, IfOk, IfSome, IfNone, IsTrue, option_map};
 ghost use Rattle.std.specs.List.{prefix_len};
-ghost use Rattle.cdni_base.specs.Target.{begins_with, scheme_of, scheme_length, is_https, is_before_path, is_unreserved, is_sub_delimiter, is_plain, is_taken, wrong_byte, first_wrong, first_wrong_of_path, path_or_root, port_or_default, target_at, target_after, absolute_target, Reads, ReadsTarget};
+ghost use Rattle.cdni_base.specs.Target.{begins_with, scheme_of, scheme_length, is_https, is_before_path, is_unreserved, is_sub_delimiter, is_plain, is_taken, wrong_byte, first_wrong, first_wrong_of_path, path_or_root, port_or_default, target_at, target_after, absolute_target, url_text, Reads, ReadsTarget};
 ghost use Rattle.cdni_base.specs.Endpoint.{endpoint_of};
 
 use crate::endpoint::{Endpoint, EndpointFault, EndpointList, HostName};
+use crate::url::url_of;
 use listing::{Listing, Text, cut_at};
 use std::alloc::{AllocError, Global};
 
@@ -119,6 +120,23 @@ impl Target {
                 None => Err(TargetFault::NoHost),
             },
         }
+    }
+
+    /// The URL of the target, with `https` where `secure` is true (RFC 3986, section 5.3).
+    ///
+    /// # Errors
+    /// Want of memory.
+    pub fn url_text(&self, alloc: Global, secure: bool) -> Result<Text, AllocError>
+        ensures { IfOk result (λ text. text ≡ url_text secure self.now) }
+    {
+        url_of(
+            alloc,
+            secure,
+            &self.host,
+            self.port,
+            &self.path,
+            &self.query,
+        )
     }
 }
 

@@ -1,4 +1,6 @@
 pub mod Endpoint
+pub mod Key
 pub mod Limits
 pub mod Rule
 pub mod Scratch
+pub mod Target

@@ -8,11 +8,12 @@ mod limits;
 mod rule;
 mod scratch;
 mod target;
+mod url;
 
 pub use endpoint::{Endpoint, EndpointFault, EndpointList, HostName};
-pub use key::Ignored;
+pub use key::{Ignored, Key, url_key};
 pub use limits::Limits;
 pub use listing::{Listing, Text, TextList};
 pub use rule::Rule;
 pub use scratch::Scratch;
-pub use target::{Asked, Protocol, SourceItem, SourceItemList, Target};
+pub use target::{Asked, Protocol, SourceItem, SourceItemList, Target, TargetFault};

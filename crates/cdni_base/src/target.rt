@@ -1,7 +1,14 @@
 //! What a request asks for.
 
-use crate::endpoint::{EndpointList, HostName};
-use listing::{Listing, Text};
+ghost use Rattle.std.specs.Prelude.{◌≡◌, ◌≤◌, ◌+◌, ℕ, length, take, drop, slice_index, IfOk, IfSome, IfNone, IsTrue, option_map};
+ghost use Rattle.std.specs.List.{prefix_len};
+ghost use Rattle.cdni_base.specs.Target.{begins_with, scheme_of, scheme_length, is_https, is_before_path, is_unreserved, is_sub_delimiter, is_plain, is_taken, wrong_byte, first_wrong, first_wrong_of_path, path_or_root, port_or_default, target_at, target_after, absolute_target, url_text, Reads, ReadsTarget};
+ghost use Rattle.cdni_base.specs.Endpoint.{endpoint_of};
+
+use crate::endpoint::{Endpoint, EndpointFault, EndpointList, HostName};
+use crate::url::url_of;
+use listing::{Listing, Text, cut_at};
+use std::alloc::{AllocError, Global};
 
 /// The delivery protocol of a request, as RFC 8006, section 7.2, names it.
 #[derive(Clone, Copy, Debug, PartialEq, Eq)]
@@ -21,6 +28,50 @@ pub struct Target {
     pub query: Option<Text>,
 }
 
+/// Why a text is no target. The first that applies, in this order, where a wrong byte is `BadPercent` or `NotOrigin`.
+#[derive(Clone, Copy, Debug, PartialEq, Eq)]
+pub enum TargetFault {
+    /// The text has `len` bytes, which are more than 4,096.
+    TooLong { len: usize },
+    /// The text has no scheme, and no host is given.
+    NoHost,
+    /// The text of the endpoint is none. `at` is the length of its longest prefix with which some endpoint begins.
+    BadHost { at: usize },
+    /// The first wrong byte stands at this place, or the text ends there.
+    NotOrigin { at: usize },
+    /// The first wrong byte is the `%` at this place, which two hexadecimal digits do not follow.
+    BadPercent { at: usize },
+    /// Want of memory.
+    Memory,
+}
+
+impl From<AllocError> for TargetFault {
+    ghost use Rattle.std.specs.Prelude.{◌≡◌};
+    ghost use Rattle.cdni_base.specs.declared.target.TargetFault.TheVariants as target_fault;
+
+    ghost from_gives = { λ _ fault. fault ≡ target_fault.Memory };
+
+    fn from(_error: AllocError) -> TargetFault {
+        TargetFault::Memory
+    }
+}
+
+impl From<EndpointFault> for TargetFault {
+    ghost use Rattle.std.specs.Prelude.{◌≡◌};
+    ghost use Rattle.cdni_base.specs.Target.{bad_host};
+
+    ghost from_gives = { λ endpoint fault. fault ≡ bad_host endpoint };
+
+    fn from(fault: EndpointFault) -> TargetFault {
+        match fault {
+            EndpointFault::BadHost { at } | EndpointFault::BadPort { at } => {
+                TargetFault::BadHost { at }
+            }
+            EndpointFault::Memory => TargetFault::Memory,
+        }
+    }
+}
+
 /// A client's request.
 #[derive(Clone, Drop)]
 pub struct Asked {
@@ -38,3 +89,236 @@ pub struct SourceItem {
 
 /// A list of sources.
 pub type SourceItemList = Listing<SourceItem>;
+
+/// The longest text of a target, in bytes.
+const MAX_LENGTH: usize = 4096;
+
+impl Target {
+    /// Reads a path with an optional query, which is asked of `host` (RFC 9112, section 3.2.1), or an absolute URL
+    /// of the scheme `http` or `https` (section 3.2.2), whose endpoint stands in place of `host`. The port is 80 where it
+    /// is absent, and where it is 443 and the scheme is `https` or, without a scheme, `secure` is true. An empty path reads
+    /// as `/`; a path and a query are else kept as they were sent, and the host in lower case.
+    ///
+    /// # Errors
+    /// The first fault in the order of `TargetFault`, or want of memory.
+    #[tactic(auto, unfolding(crate::specs::Target::target_of))]
+    pub fn read(
+        alloc: Global,
+        text: &[u8],
+        host: Option<&[u8]>,
+        secure: bool,
+    ) -> Result<Target, TargetFault>
+        ensures value { ReadsTarget text.now (option_map (λ h. h.now) host.entry) secure result }
+    {
+        if text.len() > MAX_LENGTH {
+            return Err(TargetFault::TooLong { len: text.len() });
+        }
+        match scheme_of(text) {
+            Some(scheme) => read_absolute(alloc, scheme, text),
+            None => match host {
+                Some(host) => read_path(alloc, text, host, secure),
+                None => Err(TargetFault::NoHost),
+            },
+        }
+    }
+
+    /// The URL of the target, with `https` where `secure` is true (RFC 3986, section 5.3).
+    ///
+    /// # Errors
+    /// Want of memory.
+    pub fn url_text(&self, alloc: Global, secure: bool) -> Result<Text, AllocError>
+        ensures { IfOk result (λ text. text ≡ url_text secure self.now) }
+    {
+        url_of(
+            alloc,
+            secure,
+            &self.host,
+            self.port,
+            &self.path,
+            &self.query,
+        )
+    }
+}
+
+// the scheme with which the text begins
+#[tactic(auto, unfolding(crate::specs::Target::scheme_of))]
+fn scheme_of(text: &[u8]) -> Option<Protocol>
+    ensures scheme { result ≡ scheme_of text.now }
+    ensures within { IfSome result (λ scheme. scheme_length scheme ≤ length text.now) }
+{
+    if begins_with(text, b"http://") {
+        Some(Protocol::Http)
+    } else if begins_with(text, b"https://") {
+        Some(Protocol::Https)
+    } else {
+        None
+    }
+}
+
+// whether the text begins with this word, in any case
+fn begins_with(text: &[u8], word: &[u8]) -> bool
+    ensures value { result ≡ begins_with word.now text.now }
+    ensures within { IsTrue result → length word.now ≤ length text.now }
+{
+    word.len() <= text.len() && text[..word.len()].eq_ignore_ascii_case(word)
+}
+
+fn scheme_length(scheme: Protocol) -> usize
+    ensures { result ≡ scheme_length scheme }
+{
+    match scheme {
+        Protocol::Http => 7,
+        Protocol::Https => 8,
+    }
+}
+
+// a text with a scheme: an endpoint up to the first `/` or `?`, a path and a query
+#[tactic(auto, unfolding(crate::specs::Target::absolute_target))]
+fn read_absolute(alloc: Global, scheme: Protocol, text: &[u8]) -> Result<Target, TargetFault>
+    requires { scheme_length scheme ≤ length text.now }
+    ensures { Reads (absolute_target scheme text.now) result }
+{
+    let start = scheme_length(scheme);
+    let end = start + length_before_path(&text[start..]);
+    let endpoint = Endpoint::read(alloc, &text[start..end])?;
+    match first_wrong(text, end) {
+        Some(fault) => Err(fault),
+        None => Ok(target_at(alloc, endpoint, scheme == Protocol::Https, &text[end..])?),
+    }
+}
+
+// a path and a query of this host
+fn read_path(alloc: Global, text: &[u8], host: &[u8], secure: bool) -> Result<Target, TargetFault>
+    ensures { Reads (target_after (endpoint_of host.now) secure (first_wrong_of_path text.now) text.now) result }
+{
+    let endpoint = Endpoint::read(alloc, host)?;
+    match first_wrong_of_path(text) {
+        Some(fault) => Err(fault),
+        None => Ok(target_at(alloc, endpoint, secure, text)?),
+    }
+}
+
+// how many bytes stand before the first `/` or `?`
+fn length_before_path(text: &[u8]) -> usize
+    ensures length { result ≡ prefix_len is_before_path text.now }
+    ensures within { result ≤ length text.now }
+{
+    text.iter()
+        .take_while(|byte| **byte != b'/' && **byte != b'?')
+        .count()
+}
+
+// the target at this endpoint with this path and query
+fn target_at(
+    alloc: Global,
+    endpoint: Endpoint,
+    secure: bool,
+    text: &[u8],
+) -> Result<Target, AllocError>
+    ensures { IfOk result (λ target. target ≡ target_at endpoint secure text.now) }
+{
+    let (path, query) = match cut_at(b'?', text) {
+        Some((path, query)) => (path, Some(Text::of(alloc, query)?)),
+        None => (text, None),
+    };
+    Ok(Target {
+        host: endpoint.host,
+        port: port_or_default(secure, endpoint.port),
+        path: path_or_root(alloc, path)?,
+        query,
+    })
+}
+
+// `/` where the path is empty
+fn path_or_root(alloc: Global, path: &[u8]) -> Result<Text, AllocError>
+    ensures { IfOk result (λ text. text ≡ path_or_root path.now) }
+{
+    if path.is_empty() {
+        Text::of(alloc, b"/")
+    } else {
+        Text::of(alloc, path)
+    }
+}
+
+fn port_or_default(secure: bool, port: Option<u16>) -> u16
+    ensures { result ≡ port_or_default secure port }
+{
+    match port {
+        Some(443) if secure => 80,
+        Some(port) => port,
+        None => 80,
+    }
+}
+
+// the first wrong byte of the path and the query that begin at this place
+#[tactic(auto, unfolding(crate::specs::Target::first_wrong))]
+fn first_wrong(text: &[u8], from: usize) -> Option<TargetFault>
+    requires { from ≤ length text.now }
+    ensures { result ≡ first_wrong from (drop from text.now) }
+{
+    'bytes: for at in from..text.len() {
+        if !is_taken(text[at], &text[at + 1..]) {
+            return Some(wrong_byte(text[at], at));
+        }
+    }
+    None
+}
+
+// the first wrong byte of a path and a query, of which the path begins with `/`
+fn first_wrong_of_path(text: &[u8]) -> Option<TargetFault>
+    ensures { result ≡ first_wrong_of_path text.now }
+{
+    if text.is_empty() {
+        return Some(TargetFault::NotOrigin { at: 0 });
+    }
+    if text[0] == b'/' {
+        return first_wrong(text, 0);
+    }
+    if is_taken(text[0], &text[1..]) {
+        return Some(TargetFault::NotOrigin { at: 0 });
+    }
+    Some(wrong_byte(text[0], 0))
+}
+
+fn wrong_byte(byte: u8, at: usize) -> TargetFault
+    ensures { result ≡ wrong_byte byte at }
+{
+    if byte == b'%' {
+        TargetFault::BadPercent { at }
+    } else {
+        TargetFault::NotOrigin { at }
+    }
+}
+
+// whether a path or a query has this byte before these
+fn is_taken(byte: u8, bytes: &[u8]) -> bool
+    ensures { result ≡ is_taken byte bytes.now }
+{
+    if byte == b'%' {
+        bytes.len() >= 2 && bytes[0].is_ascii_hexdigit() && bytes[1].is_ascii_hexdigit()
+    } else {
+        is_plain(byte) || byte == b'/' || byte == b'?'
+    }
+}
+
+// a pchar of one byte (RFC 3986, section 3.3)
+fn is_plain(byte: u8) -> bool
+    ensures { result ≡ is_plain byte }
+{
+    is_unreserved(byte) || is_sub_delimiter(byte) || byte == b':' || byte == b'@'
+}
+
+fn is_unreserved(byte: u8) -> bool
+    ensures { result ≡ is_unreserved byte }
+{
+    byte.is_ascii_alphanumeric() || byte == b'-' || byte == b'.' || byte == b'_' || byte == b'~'
+}
+
+fn is_sub_delimiter(byte: u8) -> bool
+    ensures { result ≡ is_sub_delimiter byte }
+{
+    matches!(
+        byte,
+        b'!' | b'$' | b'&' | b'\'' | b'(' | b')' | b'*' | b'+' | b',' | b';' | b'='
+    )
+}

@@ -1,0 +1,51 @@
+-- Cache keys: what of a target tells one kept object from another.
+use Rattle.std.specs.Prelude.{ℕ, Bool, true, false, not, List, [], ◌∷◌, filter, None, Some, bytes_eq, ◌==◌}
+use Rattle.std.specs.List.{slice_split, before_first, join_with_byte, list_any}
+use Rattle.std.specs.Str.{str_to_ascii_lowercase}
+use Rattle.std.specs.declared.option.Option.{Option}
+use Rattle.cdni_base.specs.declared.endpoint.HostName.{HostName}
+use Rattle.cdni_base.specs.declared.key.Ignored.{Ignored}
+use Rattle.cdni_base.specs.declared.key.Ignored.TheVariants as ignored
+use Rattle.cdni_base.specs.declared.target.Target.{Target}
+use Rattle.cdni_base.specs.Target.{url_of}
+
+-- a key, without its URL texts, which the others give
+pub record KeyParts : Type 0 where
+  pub host : HostName
+  pub port : ℕ
+  pub path : List ℕ
+  pub query : Option (List ℕ)
+  pub ignored : Ignored
+
+-- the pieces of a query, which stand between its `&`; where there is no query there are none
+abbrev pub pieces_of : Option (List ℕ) → List (List ℕ)
+pieces_of None = []
+pieces_of (Some query) = slice_split (λ byte. byte == 38) query
+
+-- the name of a piece, in lower case: what stands before its first `=`, or the whole where there is none
+abbrev pub name_of : List ℕ → List ℕ
+name_of piece = str_to_ascii_lowercase (before_first (λ byte. byte == 61) piece)
+
+-- the piece is kept, since its name is none of these
+abbrev pub is_kept : List (List ℕ) → List ℕ → Bool
+is_kept names piece = not (list_any (λ name. bytes_eq name (name_of piece)) names)
+
+-- these pieces in order, joined by `&`; absent where there are none
+abbrev pub joined : List (List ℕ) → Option (List ℕ)
+joined [] = None
+joined (piece ∷ pieces) = Some (join_with_byte 38 (piece ∷ pieces))
+
+-- what is kept of the query of a target
+abbrev pub kept_query : Ignored → Option (List ℕ) → Option (List ℕ)
+kept_query ignored.None query = query
+kept_query ignored.All query = None
+kept_query (ignored.Names names) query = joined (filter (is_kept names) (pieces_of query))
+
+-- the key of a target
+abbrev pub key_of : Target → Ignored → KeyParts
+key_of target ignored = record { host = target.host; port = target.port; path = target.path; query = kept_query ignored target.query; ignored = ignored }
+
+-- the URL of a key, with its query or without it
+abbrev pub key_text : Bool → Bool → KeyParts → List ℕ
+key_text secure true key = url_of secure key.host key.port key.path key.query
+key_text secure false key = url_of secure key.host key.port key.path None

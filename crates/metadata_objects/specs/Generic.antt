@@ -8,7 +8,7 @@ use Rattle.json_read.specs.Field.{◌>>=◌, needed}
 use Rattle.json_read.specs.Path.{child_of}
 use Rattle.metadata_objects.specs.Reading.{Reading, counted, no_link, needed_text, in_range, field, flag_or, all_of}
 use Rattle.metadata_objects.specs.Cache.{ignored_in, grouping_in}
-use Rattle.metadata_objects.specs.Lists.{times_in, protocols_in}
+use Rattle.metadata_objects.specs.Lists.{locations_in, times_in, protocols_in}
 use Rattle.metadata_objects.specs.Source.{sources_in}
 use Rattle.metadata_objects.specs.declared.generic.Generic.{Generic}
 use Rattle.metadata_objects.specs.declared.generic.Held.{Held}
@@ -23,14 +23,19 @@ abbrev pub held_as : {A : Type 0} → (A → Held) → Option A → Held
 held_as of None = held.NotUnderstood
 held_as of (Some value) = of value
 
+-- what is understood of a list by which deliveries are allowed or denied, where it reads
+unfoldable pub understood_list : List ℕ → Data → Held
+understood_list kind value =
+    if bytes_eq kind (codes "mi.locationacl") then held_as held.Location (locations_in value) else
+    (if bytes_eq kind (codes "mi.timewindowacl") then held_as held.Time (times_in value) else
+    (if bytes_eq kind (codes "mi.protocolacl") then held_as held.Protocol (protocols_in value) else held.NotUnderstood))
+
 -- what is understood of a value of this type, where it reads
 unfoldable pub understood : List ℕ → Data → Held
 understood kind value =
     if bytes_eq kind (codes "mi.sourcemetadata") then held_as held.Source (sources_in value) else
-    (if bytes_eq kind (codes "mi.timewindowacl") then held_as held.Time (times_in value) else
-    (if bytes_eq kind (codes "mi.protocolacl") then held_as held.Protocol (protocols_in value) else
     (if bytes_eq kind (codes "mi.cache") then held_as held.Cache (ignored_in value) else
-    (if bytes_eq kind (codes "mi.grouping") then held_as held.Grouping (grouping_in value) else held.NotUnderstood))))
+    (if bytes_eq kind (codes "mi.grouping") then held_as held.Grouping (grouping_in value) else understood_list kind value))
 
 -- what is held of an object; one that says so is not understood
 abbrev pub held_of : Bool → List ℕ → Data → Held

@@ -3,15 +3,17 @@
 ghost use Rattle.std.specs.Prelude.{◌≡◌, IfOk};
 ghost use Rattle.serde_json.specs.View.{view, items_view};
 ghost use Rattle.metadata_objects.specs.Reading.{Gives};
-ghost use Rattle.metadata_objects.specs.Generic.{kind_of, understood, held_of, generic_of, generics_of};
+ghost use Rattle.metadata_objects.specs.Generic.{kind_of, understood, understood_list, held_of, generic_of, generics_of};
 
 use crate::cache::{grouping_of, ignored_of};
 use crate::fault::MetaFault;
 use crate::lists::{protocols_of, times_of};
+use crate::location::locations_of;
 use crate::object::{flag, one_more, out_of_range, refuse_link, text};
 use crate::source::sources_of;
 use cdni_base::{Ignored, Listing, SourceItemList, Text};
 use json_read::{JsonPath, Value, need};
+use location_acl::LocationAcl;
 use protocol_acl::ProtocolAcl;
 use std::alloc::{AllocError, Global};
 use time_window::TimeWindowAcl;
@@ -34,6 +36,8 @@ pub struct Generic {
 pub enum Held {
     /// MI.SourceMetadata (RFC 8006, section 4.2.1).
     Source(SourceItemList),
+    /// MI.LocationACL (RFC 8006, section 4.2.2).
+    Location(LocationAcl),
     /// MI.TimeWindowACL (RFC 8006, section 4.2.3).
     Time(TimeWindowAcl),
     /// MI.ProtocolACL (RFC 8006, section 4.2.4).
@@ -138,14 +142,27 @@ fn understand(alloc: Global, kind: &Text, value: &Value) -> Result<Held, AllocEr
 {
     let held = if kind.is(b"mi.sourcemetadata") {
         sources_of(alloc, value)?.map(Held::Source)
-    } else if kind.is(b"mi.timewindowacl") {
-        times_of(alloc, value)?.map(Held::Time)
-    } else if kind.is(b"mi.protocolacl") {
-        protocols_of(alloc, value)?.map(Held::Protocol)
     } else if kind.is(b"mi.cache") {
         ignored_of(alloc, value)?.map(Held::Cache)
     } else if kind.is(b"mi.grouping") {
         grouping_of(alloc, value)?.map(Held::Grouping)
+    } else {
+        return understand_list(alloc, kind, value);
+    };
+    Ok(held.unwrap_or(Held::NotUnderstood))
+}
+
+// the same of the access lists
+#[tactic(auto, unfolding(crate::specs::Generic::understood_list))]
+fn understand_list(alloc: Global, kind: &Text, value: &Value) -> Result<Held, AllocError>
+    ensures { IfOk result (λ held. held ≡ understood_list kind.now (view value.now)) }
+{
+    let held = if kind.is(b"mi.locationacl") {
+        locations_of(alloc, value)?.map(Held::Location)
+    } else if kind.is(b"mi.timewindowacl") {
+        times_of(alloc, value)?.map(Held::Time)
+    } else if kind.is(b"mi.protocolacl") {
+        protocols_of(alloc, value)?.map(Held::Protocol)
     } else {
         None
     };

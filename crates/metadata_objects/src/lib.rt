@@ -8,6 +8,7 @@ mod host;
 mod items;
 mod level;
 mod lists;
+mod location;
 mod object;
 mod source;
 

@@ -1,4 +1,5 @@
-//! The values of the access lists (RFC 8006, sections 4.2.2 to 4.2.4).
+//! What the values of the access lists have in common, and those of time windows and protocols (RFC 8006, sections
+//! 4.2.2 to 4.2.4).
 
 ghost use Rattle.std.specs.Prelude.{◌≡◌, IfOk, None};
 ghost use Rattle.serde_json.specs.View.{view};
@@ -13,7 +14,7 @@ use time_window::{TimeRule, TimeWindow, TimeWindowAcl};
 
 // whether a rule allows, if its action reads; an absent one denies
 #[tactic(auto, unfolding(crate::specs::Lists::action_in))]
-fn action_of(value: &Value) -> Option<bool>
+pub(crate) fn action_of(value: &Value) -> Option<bool>
     ensures { result ≡ action_in (view value.now) }
 {
     let Some(member) = value.get("action") else {
@@ -29,7 +30,7 @@ fn action_of(value: &Value) -> Option<bool>
 
 // the items of a property that must be a list, if they read
 #[tactic(auto, unfolding(crate::specs::Lists::listed_in))]
-fn listed<T: Item>(
+pub(crate) fn listed<T: Item>(
     alloc: Global,
     value: &Value,
     name: &str,
@@ -44,7 +45,7 @@ fn listed<T: Item>(
 
 // the rules of an object's property, if they read; an absent one gives none
 #[tactic(auto, unfolding(crate::specs::Lists::rules_in))]
-fn rules<T: Item>(
+pub(crate) fn rules<T: Item>(
     alloc: Global,
     value: &Value,
     name: &str,

@@ -1,7 +1,7 @@
 -- The values of MI.Cache and MI.Grouping (RFC 8006, sections 4.2.6 and 4.2.8). What does not read is not understood.
 use Rattle.std.specs.Prelude.{ℕ, Bool, not, List, [], ◌∷◌, codes, map, length, None, Some, ◌==◌, ◌&&◌, nat_lt, nat_le, if◌then◌else◌}
 use Rattle.std.specs.List.{list_all}
-use Rattle.std.specs.Option.{option_map, option_and_then}
+use Rattle.std.specs.Option.{option_map}
 use Rattle.std.specs.Str.{str_to_ascii_lowercase}
 use Rattle.std.specs.declared.option.Option.{Option}
 use Rattle.serde_json.specs.Data.{Data}

@@ -1,6 +1,5 @@
 -- GenericMetadata (RFC 8006, section 4.1.7).
 use Rattle.std.specs.Prelude.{ℕ, Bool, true, false, List, codes, bytes_eq, length, None, Some, Ok, nat_lt, nat_le, ◌&&◌, if◌then◌else◌}
-use Rattle.std.specs.Option.{option_map_or}
 use Rattle.std.specs.Str.{str_to_ascii_lowercase}
 use Rattle.std.specs.declared.option.Option.{Option}
 use Rattle.serde_json.specs.Data.{Data, Items}

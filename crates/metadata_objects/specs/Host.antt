@@ -1,12 +1,10 @@
 -- HostIndex and HostMatch (RFC 8006, sections 4.1.1 and 4.1.2).
-use Rattle.std.specs.Prelude.{ℕ, List, [], codes, length, None, Some, Ok, Err, nat_lt, if◌then◌else◌}
-use Rattle.std.specs.Option.{option_map_or, is_some}
+use Rattle.std.specs.Prelude.{ℕ, List, [], codes, length, Ok, Err, nat_lt, if◌then◌else◌}
+use Rattle.std.specs.Option.{option_map_or}
 use Rattle.std.specs.Result.{result_ok}
-use Rattle.std.specs.declared.option.Option.{Option}
 use Rattle.serde_json.specs.Data.{Data, Items}
-use Rattle.serde_json.specs.Find.{get}
 use Rattle.cdni_base.specs.Endpoint.{endpoint_of}
-use Rattle.json_read.specs.Field.{◌>>=◌, looked_up, needed, items_of}
+use Rattle.json_read.specs.Field.{◌>>=◌, needed, items_of}
 use Rattle.json_read.specs.Path.{child_of}
 use Rattle.json_read.specs.Text.{json_of}
 use Rattle.metadata_objects.specs.Reading.{Reading, counted, no_link, needed_text, in_range, field, all_of}

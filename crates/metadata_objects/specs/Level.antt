@@ -1,7 +1,7 @@
 -- HostMetadata, PathMetadata, PathMatch and PatternMatch (RFC 8006, sections 4.1.3 to 4.1.6).
 use Rattle.std.specs.Prelude.{ℕ, zero, suc, false, List, [], codes, length, None, Some, Ok, Err, nat_le, if◌then◌else◌}
 use Rattle.std.specs.declared.option.Option.{Option}
-use Rattle.serde_json.specs.Data.{Data, Items}
+use Rattle.serde_json.specs.Data.{Data}
 use Rattle.json_read.specs.Field.{◌>>=◌, looked_up, needed, items_of}
 use Rattle.json_read.specs.Path.{child_of}
 use Rattle.pattern_match.specs.Matching.{Compiled, compiled}

@@ -1,7 +1,7 @@
 -- The value of MI.SourceMetadata (RFC 8006, sections 4.2.1 and 4.2.1.1). What does not read is not understood.
-use Rattle.std.specs.Prelude.{ℕ, List, [], ◌∷◌, codes, length, None, Some, nat_le, if◌then◌else◌}
+use Rattle.std.specs.Prelude.{ℕ, List, [], codes, length, None, Some, nat_le, if◌then◌else◌}
 use Rattle.std.specs.List.{sum_by}
-use Rattle.std.specs.Option.{option_map, option_and_then, is_some}
+use Rattle.std.specs.Option.{option_and_then, is_some}
 use Rattle.std.specs.Result.{result_ok}
 use Rattle.std.specs.declared.option.Option.{Option}
 use Rattle.serde_json.specs.Data.{Data}

@@ -1,5 +1,5 @@
 -- What a metadata tree is seen as: plain data, whatever memory its lists have taken.
-use Rattle.std.specs.Prelude.{ℕ, List, [], ◌∷◌, map}
+use Rattle.std.specs.Prelude.{List, [], ◌∷◌, map}
 use Rattle.cdni_base.specs.declared.endpoint.Endpoint.{Endpoint}
 use Rattle.pattern_match.specs.Matching.{Compiled}
 use Rattle.metadata_objects.specs.declared.generic.Generic.{Generic}

@@ -21,7 +21,10 @@ pub(crate) trait Item: Drop {
 }
 
 // the items, if each of them reads
-pub(crate) fn each<T: Item>(alloc: Global, items: &[Value]) -> Result<Option<Listing<T>>, AllocError>
+pub(crate) fn each<T: Item>(
+    alloc: Global,
+    items: &[Value],
+) -> Result<Option<Listing<T>>, AllocError>
     ensures { IfOk result (λ found. found ≡ each_of T.reads (items_view items.now)) }
 {
     let mut list = Listing::new(alloc);

@@ -1,0 +1,37 @@
+-- Which objects of the arrays that apply are effective (RFC 8006, section 3.3): a type's object overrides those of the
+-- levels outside it, whether it is understood or not.
+use Rattle.std.specs.Prelude.{ℕ, Bool, bytes_eq, List, [], ◌∷◌, ◌++◌, map, None, if◌then◌else◌}
+use Rattle.std.specs.List.{find, list_any, flat_map}
+use Rattle.std.specs.Option.{option_or, unwrap_or}
+use Rattle.std.specs.declared.option.Option.{Option}
+use Rattle.metadata_objects.specs.declared.generic.Generic.{Generic}
+
+abbrev pub is_of_kind : List ℕ → Generic → Bool
+is_of_kind kind object = bytes_eq object.kind kind
+
+-- the first object of the type in the innermost array that has one; arrays stand outermost first
+abbrev pub innermost : List ℕ → List (List Generic) → Option Generic
+innermost kind [] = None
+innermost kind (objects ∷ inner) = option_or (innermost kind inner) (find (is_of_kind kind) objects)
+
+-- of the objects after those before, the first of each type that is not among those before
+abbrev pub firsts_after : List Generic → List Generic → List Generic
+firsts_after before [] = []
+firsts_after before (object ∷ objects) = if list_any (is_of_kind object.kind) before then firsts_after (before ++ object ∷ []) objects
+    else object ∷ firsts_after (before ++ object ∷ []) objects
+
+-- the first object of each type, in order
+unfoldable pub firsts : List Generic → List Generic
+firsts objects = firsts_after [] objects
+
+-- the objects of all arrays, from outside
+abbrev pub all_objects : List (List Generic) → List Generic
+all_objects arrays = flat_map (λ objects. objects) arrays
+
+-- the object that counts in the place of this one
+abbrev pub overriding : List (List Generic) → Generic → Generic
+overriding arrays object = unwrap_or (innermost object.kind arrays) object
+
+-- one object for each type, in order of first appearance from outside, each the first of its type in the innermost array that has one
+unfoldable pub effective : List (List Generic) → List Generic
+effective arrays = map (overriding arrays) (firsts (all_objects arrays))

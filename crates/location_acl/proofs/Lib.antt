@@ -5,3 +5,6 @@ pub mod SixLemmas
 pub mod WrittenLemmas
 pub mod PlaceLemmas
 pub mod AddressLemmas
+pub mod BlockLemmas
+pub mod BlockPlaces
+pub mod FootprintLemmas

@@ -4,7 +4,7 @@ use Rattle.std.proofs.lemmas.Bool.{cases_lt}
 use Rattle.std.proofs.lemmas.List.{take_more}
 use Rattle.location_acl.specs.Place.{Begins, IsPlace}
 
-take_longer : (text : List ℕ) (at n : ℕ) → at < n → n ≤ length text → (xs : List ℕ) × (take n text ≡ take at text ++ get_or text at 0 ∷ xs)
+pub take_longer : (text : List ℕ) (at n : ℕ) → at < n → n ≤ length text → (xs : List ℕ) × (take n text ≡ take at text ++ get_or text at 0 ∷ xs)
 take_longer [] at n longer within = absurd (omega arith)
 take_longer (x ∷ text) at zero longer within = absurd (omega arith)
 take_longer (x ∷ text) zero (suc n) longer within = (take n text, refl)

@@ -1,2 +1,10 @@
 pub mod GroupLemmas
 pub mod PartLemmas
+pub mod DottedLemmas
+pub mod SixLemmas
+pub mod WrittenLemmas
+pub mod PlaceLemmas
+pub mod AddressLemmas
+pub mod BlockLemmas
+pub mod BlockPlaces
+pub mod FootprintLemmas

@@ -1,11 +1,11 @@
 -- Footprints (RFC 8006, sections 4.3.3 to 4.3.8), and the places that they hold.
-use Rattle.std.specs.Prelude.{ℕ, Bool, true, false, ◌==◌, ◌&&◌, nat_le, bytes_eq, codes, List, [], ◌∷◌, take, drop, Option, Some, None, option_map, if◌then◌else◌}
+use Rattle.std.specs.Prelude.{◌≡◌, ℕ, ◌≤◌, ◌++◌, decimal, Bool, true, false, ◌==◌, ◌&&◌, nat_le, bytes_eq, codes, List, [], ◌∷◌, take, drop, Option, Some, None, option_map, if◌then◌else◌}
 use Rattle.std.specs.Char.{is_ascii_lowercase}
 use Rattle.listing.specs.Number.{number_of}
 use Rattle.location_acl.specs.declared.footprint.Footprint.{Footprint}
 use Rattle.location_acl.specs.declared.footprint.Footprint.TheVariants.{V4, V6, Asn, Country}
 use Rattle.location_acl.specs.declared.footprint.Place.{Place}
-use Rattle.location_acl.specs.Block.{holds, block_of}
+use Rattle.location_acl.specs.Block.{holds, block_of, IsBlock}
 
 -- the place has this number of an autonomous system
 abbrev pub has_asn : ℕ → Option ℕ → Bool
@@ -51,3 +51,15 @@ footprint_of kind value =
     else (if bytes_eq kind (codes "asn") then option_map Asn (asn_of value)
     else (if bytes_eq kind (codes "countrycode") then option_map (λ letters. Country letters.0 letters.1) (country_of value)
     else None)))
+
+-- a lower-case letter
+abbrev pub IsLowerLetter : ℕ → Type 0
+IsLowerLetter byte = (97 ≤ byte) × (byte ≤ 122)
+
+-- the value is of the type and is this footprint
+abbrev pub IsFootprint : List ℕ → List ℕ → Footprint → Type 0
+IsFootprint kind value (V4 block) = (kind ≡ codes "ipv4cidr") × IsBlock false value block
+IsFootprint kind value (V6 block) = (kind ≡ codes "ipv6cidr") × IsBlock true value block
+IsFootprint kind value (Asn number) = (kind ≡ codes "asn") × (number ≤ 4294967295) × (value ≡ codes "as" ++ decimal number)
+IsFootprint kind value (Country first second) =
+    (kind ≡ codes "countrycode") × (value ≡ first ∷ second ∷ []) × IsLowerLetter first × IsLowerLetter second

@@ -1,12 +1,13 @@
 -- The groups of an IPv6 address as they are read: numbers of 16 bits, put together as numbers to the base 65536.
-use Rattle.std.specs.Prelude.{ℕ, ◌+◌, ◌-◌, ◌*◌, ◌^◌, ◌<◌, ◌≤◌, Bool, true, false, ◌==◌, ◌&&◌, ◌||◌, nat_le, if◌then◌else◌}
+use Rattle.std.specs.Prelude.{◌≡◌, ℕ, ◌+◌, ◌-◌, ◌*◌, ◌^◌, ◌<◌, ◌≤◌, Bool, true, false, ◌==◌, ◌&&◌, ◌||◌, nat_le, if◌then◌else◌}
 use Rattle.location_acl.specs.declared.groups.Groups.{Groups}
 
--- the numbers have as many groups as is said, and there are eight at most
+-- the numbers have as many groups as is said, there are eight at most, and without a gap none are behind it
 pub record AreBounded (g : Groups) : Type 0 where
   pub front : g.front < 65536 ^ g.front_len
   pub back : g.back < 65536 ^ g.back_len
   pub few : g.front_len + g.back_len ≤ 8
+  pub plain : g.has_gap ≡ false → g.back_len ≡ 0
 
 abbrev pub no_groups : Groups
 no_groups = record { front = 0; front_len = 0; has_gap = false; back = 0; back_len = 0 }

@@ -1,3 +1,5 @@
+pub mod Address
+pub mod Place
 pub mod Groups
 pub mod Reading
 pub mod Block

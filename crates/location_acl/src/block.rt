@@ -1,8 +1,9 @@
 //! Blocks of addresses.
 
-ghost use Rattle.std.specs.Prelude.{◌≡◌, ◌^◌, ◌<◌, ◌≤◌, ◌↔◌, IfSome, length};
+ghost use Rattle.std.specs.Prelude.{◌≡◌, ◌≤◌, IfErr, IsSome};
 ghost use Rattle.std.specs.Result.{result_ok};
-ghost use Rattle.location_acl.specs.Block.{holds, has_same_front, block_of, base_of, length_of, most_of};
+ghost use Rattle.location_acl.specs.Place.{IsPlace};
+ghost use Rattle.location_acl.specs.Block.{has_same_front, base_of, length_of, length_with, most_of, IsFitting};
 
 use crate::ip::Ip;
 use crate::{dotted, six};
@@ -24,12 +25,15 @@ pub enum BlockFault {
 }
 
 impl Block {
+    ghost use Rattle.location_acl.specs.Block.{holds, block_of, ReadsBlock};
+
     /// Reads a block: an address, an IPv6 one where `six` is true and else an IPv4 one, a `/`, and 1 to 3 decimal digits.
     ///
     /// # Errors
     /// `BadLength` where the text is that, but the number of the digits is above 128, or above 32 of an IPv4 address.
     /// `BadAddress` where it is not, with the length of its longest front that begins a block.
     pub fn read(text: &[u8], six: bool) -> Result<Block, BlockFault>
+        ensures grammar { ReadsBlock six text.now result }
         ensures value { result_ok result ≡ block_of six text.now }
     {
         let Some((front, digits)) = cut_at(b'/', text) else {
@@ -79,6 +83,7 @@ fn has_same_front(base: u128, number: u128, width: u8, length: u8) -> bool
 // the address of this kind that the text is; otherwise how many of its first bytes begin one, at most
 fn read_base(text: &[u8], six: bool) -> Result<Ip, usize>
     ensures value { result_ok result ≡ base_of six text.now }
+    ensures place { IfErr result (IsPlace (λ other. IsSome (base_of six other)) text.now) }
 {
     if six {
         match six::read(text) {
@@ -94,7 +99,9 @@ fn read_base(text: &[u8], six: bool) -> Result<Ip, usize>
 }
 
 // how many of the first bytes begin an address of this kind, at most
-fn begun_base(text: &[u8], six: bool) -> usize {
+fn begun_base(text: &[u8], six: bool) -> usize
+    ensures { IsPlace (λ other. IsSome (base_of six other)) text.now result }
+{
     match read_base(text, six) {
         Ok(_) => text.len(),
         Err(at) => at,
@@ -119,19 +126,32 @@ fn length_of(text: &[u8]) -> Option<u64>
     }
 }
 
-// how many of the first bytes begin a length, at most
-fn begun_length(text: &[u8], six: bool) -> usize
-    ensures within { result ≤ length text.now }
+// the number of so many digits with one more behind them; none where no length that fits begins so
+fn length_with(six: bool, number: u64, count: usize, byte: u8) -> Option<u64>
+    requires { number ≤ 128 }
+    ensures { result ≡ length_with six number count byte }
 {
-    let mut number = 0u64;
+    if count >= 3 || !byte.is_ascii_digit() {
+        return None;
+    }
+    let next = number * 10 + u64::from(byte - b'0');
+    if next <= most_of(six) {
+        Some(next)
+    } else {
+        None
+    }
+}
+
+// how many of the first bytes begin a length that fits, at most
+fn begun_length(text: &[u8], six: bool) -> usize
+    ensures { IsPlace (IsFitting six) text.now result }
+{
+    let mut number = 0;
     'digits: for (at, byte) in text.iter().enumerate() {
-        if at >= 3 || !byte.is_ascii_digit() {
+        let Some(next) = length_with(six, number, at, *byte) else {
             return at;
-        }
-        number = number * 10 + u64::from(*byte - b'0');
-        if number > most_of(six) {
-            return at;
-        }
+        };
+        number = next;
     }
     text.len()
 }

@@ -1,7 +1,7 @@
 //! Footprints, and the places that they hold.
 
-ghost use Rattle.std.specs.Prelude.{◌≡◌};
-ghost use Rattle.location_acl.specs.Footprint.{holds_place, footprint_of, asn_of, country_of, is_lower_letter};
+ghost use Rattle.std.specs.Prelude.{◌≡◌, ◌↔◌};
+ghost use Rattle.location_acl.specs.Footprint.{asn_of, country_of, is_lower_letter, footprint_of};
 
 use crate::block::Block;
 use crate::ip::Ip;
@@ -26,24 +26,16 @@ pub enum Footprint {
 }
 
 impl Footprint {
+    ghost use Rattle.location_acl.specs.Footprint.{holds_place, IsFootprint};
+
     /// Reads a value of a footprint of this type. `None` where the type is not `ipv4cidr`, `ipv6cidr`, `asn` or
     /// `countrycode`, or the value is not of the type: a block of IPv4 or IPv6 addresses, `as` and a decimal number of at
     /// most 4294967295 without leading zeros, or two lower-case letters (RFC 8006, sections 4.3.3 to 4.3.6).
     pub fn read(kind: &[u8], value: &[u8]) -> Option<Footprint>
-        ensures { result ≡ footprint_of kind.now value.now }
+        ensures grammar { (footprint : Footprint) → (result ≡ Some footprint) ↔ IsFootprint kind.now value.now footprint }
+        ensures value { result ≡ footprint_of kind.now value.now }
     {
-        if kind == b"ipv4cidr".as_slice() {
-            Some(Footprint::V4(Block::read(value, false).ok()?))
-        } else if kind == b"ipv6cidr".as_slice() {
-            Some(Footprint::V6(Block::read(value, true).ok()?))
-        } else if kind == b"asn".as_slice() {
-            Some(Footprint::Asn(asn_of(value)?))
-        } else if kind == b"countrycode".as_slice() {
-            let (first, second) = country_of(value)?;
-            Some(Footprint::Country(first, second))
-        } else {
-            None
-        }
+        read_value(kind, value)
     }
 
     /// Whether the place is in the footprint.
@@ -61,6 +53,24 @@ impl Footprint {
                 None => false,
             },
         }
+    }
+}
+
+// the footprint that this value of a footprint of this type is
+fn read_value(kind: &[u8], value: &[u8]) -> Option<Footprint>
+    ensures { result ≡ footprint_of kind.now value.now }
+{
+    if kind == b"ipv4cidr".as_slice() {
+        Some(Footprint::V4(Block::read(value, false).ok()?))
+    } else if kind == b"ipv6cidr".as_slice() {
+        Some(Footprint::V6(Block::read(value, true).ok()?))
+    } else if kind == b"asn".as_slice() {
+        Some(Footprint::Asn(asn_of(value)?))
+    } else if kind == b"countrycode".as_slice() {
+        let (first, second) = country_of(value)?;
+        Some(Footprint::Country(first, second))
+    } else {
+        None
     }
 }
 

@@ -1,8 +1,7 @@
 //! Addresses.
 
-ghost use Rattle.std.specs.Prelude.{◌≡◌};
+ghost use Rattle.std.specs.Prelude.{◌≡◌, ℕ, ◌↔◌};
 ghost use Rattle.std.specs.Result.{result_ok};
-ghost use Rattle.location_acl.specs.Reading.{ip_of};
 
 use crate::{dotted, six};
 
@@ -20,13 +19,19 @@ pub enum AddressFault {
 }
 
 impl Ip {
+    ghost use Rattle.location_acl.specs.Address.{IsAddress, IsSomeAddress};
+    ghost use Rattle.location_acl.specs.Place.{IsPlace};
+    ghost use Rattle.location_acl.specs.Reading.{ip_of};
+
     /// Reads an address: four numbers 0 to 255 without leading zeros joined by `.`, or an IPv6 address (RFC 4291,
     /// section 2.2).
     ///
     /// # Errors
     /// `BadAddress` where the text is neither, with the length of its longest front that begins an address.
     pub fn read(text: &[u8]) -> Result<Ip, AddressFault>
+        ensures ok { (ip : Ip) → (result ≡ Ok ip) ↔ IsAddress text.now ip }
         ensures value { result_ok result ≡ ip_of text.now }
+        ensures place { (at : ℕ) → result ≡ Err (AddressFault.BadAddress at) → IsPlace IsSomeAddress text.now at }
     {
         let at_four = match dotted::read(text) {
             Ok(number) => return Ok(Ip::V4(number)),

@@ -8,6 +8,7 @@ mod dotted;
 mod footprint;
 mod groups;
 mod ip;
+pub mod laws;
 mod six;
 
 pub use acl::{FootprintList, LocationAcl, LocationRule, LocationRuleList};

@@ -1,1 +1,4 @@
+pub mod EndpointLemmas
 pub mod KeyLemmas
+pub mod RowLemmas
+pub mod TargetLemmas

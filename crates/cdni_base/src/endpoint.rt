@@ -4,6 +4,7 @@ ghost use Rattle.std.specs.Prelude.{◌≡◌, ◌==◌, ◌<◌, ◌≤◌, len
 ghost use Rattle.std.specs.List.{prefix_len};
 ghost use Rattle.std.specs.Str.{str_to_ascii_lowercase};
 ghost use Rattle.cdni_base.specs.Endpoint.{is_name_byte, is_address_byte, host_length, host_front, port_of, port_number, port_front, ReadsEndpoint};
+ghost use Rattle.cdni_base.specs.Grammar.{AnswersEndpoint};
 
 use listing::{Listing, Text, read_digits};
 use std::alloc::{AllocError, Global};
@@ -50,23 +51,31 @@ impl Endpoint {
     /// # Errors
     /// `BadHost` where no prefix of the text is a host, `BadPort` where the rest after the longest host
     /// is no port, or want of memory.
-    #[tactic(auto, unfolding(crate::specs::Endpoint::endpoint_of))]
     pub fn read(alloc: Global, text: &[u8]) -> Result<Endpoint, EndpointFault>
-        ensures { ReadsEndpoint text.now result }
+        ensures value { ReadsEndpoint text.now result }
+        ensures grammar { AnswersEndpoint text.now result }
     {
-        let length = host_length(text);
-        if length == 0 {
-            return Err(EndpointFault::BadHost {
-                at: host_front(text),
-            });
-        }
-        match read_port(&text[length..]) {
-            Ok(port) => Ok(Endpoint {
-                host: HostName(lowered(alloc, &text[..length])?),
-                port,
-            }),
-            Err(at) => Err(EndpointFault::BadPort { at: length + at }),
-        }
+        read_endpoint(alloc, text)
+    }
+}
+
+// the endpoint that the text writes, or why it writes none
+#[tactic(auto, unfolding(crate::specs::Endpoint::endpoint_of))]
+fn read_endpoint(alloc: Global, text: &[u8]) -> Result<Endpoint, EndpointFault>
+    ensures { ReadsEndpoint text.now result }
+{
+    let length = host_length(text);
+    if length == 0 {
+        return Err(EndpointFault::BadHost {
+            at: host_front(text),
+        });
+    }
+    match read_port(&text[length..]) {
+        Ok(port) => Ok(Endpoint {
+            host: HostName(lowered(alloc, &text[..length])?),
+            port,
+        }),
+        Err(at) => Err(EndpointFault::BadPort { at: length + at }),
     }
 }
 

@@ -4,6 +4,7 @@
 
 mod endpoint;
 mod key;
+pub mod laws;
 mod limits;
 mod rule;
 mod scratch;

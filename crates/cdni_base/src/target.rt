@@ -4,6 +4,7 @@ ghost use Rattle.std.specs.Prelude.{◌≡◌, ◌≤◌, ◌+◌, ℕ, length, 
 ghost use Rattle.std.specs.List.{prefix_len};
 ghost use Rattle.cdni_base.specs.Target.{begins_with, scheme_of, scheme_length, is_https, is_before_path, is_unreserved, is_sub_delimiter, is_plain, is_taken, wrong_byte, first_wrong, first_wrong_of_path, path_or_root, port_or_default, target_at, target_after, absolute_target, url_text, Reads, ReadsTarget};
 ghost use Rattle.cdni_base.specs.Endpoint.{endpoint_of};
+ghost use Rattle.cdni_base.specs.Grammar.{AnswersTarget};
 
 use crate::endpoint::{Endpoint, EndpointFault, EndpointList, HostName};
 use crate::url::url_of;
@@ -101,7 +102,6 @@ impl Target {
     ///
     /// # Errors
     /// The first fault in the order of `TargetFault`, or want of memory.
-    #[tactic(auto, unfolding(crate::specs::Target::target_of))]
     pub fn read(
         alloc: Global,
         text: &[u8],
@@ -109,17 +109,9 @@ impl Target {
         secure: bool,
     ) -> Result<Target, TargetFault>
         ensures value { ReadsTarget text.now (option_map (λ h. h.now) host.entry) secure result }
+        ensures grammar { AnswersTarget text.now (option_map (λ h. h.now) host.entry) secure result }
     {
-        if text.len() > MAX_LENGTH {
-            return Err(TargetFault::TooLong { len: text.len() });
-        }
-        match scheme_of(text) {
-            Some(scheme) => read_absolute(alloc, scheme, text),
-            None => match host {
-                Some(host) => read_path(alloc, text, host, secure),
-                None => Err(TargetFault::NoHost),
-            },
-        }
+        read_target(alloc, text, host, secure)
     }
 
     /// The URL of the target, with `https` where `secure` is true (RFC 3986, section 5.3).
@@ -137,6 +129,28 @@ impl Target {
             &self.path,
             &self.query,
         )
+    }
+}
+
+// the target that the text writes, or its first fault
+#[tactic(auto, unfolding(crate::specs::Target::target_of))]
+fn read_target(
+    alloc: Global,
+    text: &[u8],
+    host: Option<&[u8]>,
+    secure: bool,
+) -> Result<Target, TargetFault>
+    ensures { ReadsTarget text.now (option_map (λ h. h.now) host.entry) secure result }
+{
+    if text.len() > MAX_LENGTH {
+        return Err(TargetFault::TooLong { len: text.len() });
+    }
+    match scheme_of(text) {
+        Some(scheme) => read_absolute(alloc, scheme, text),
+        None => match host {
+            Some(host) => read_path(alloc, text, host, secure),
+            None => Err(TargetFault::NoHost),
+        },
     }
 }
 

@@ -1,0 +1,5 @@
+use Rattle.cdni_base.proofs.EndpointLemmas.{endpoint_answers}
+use Rattle.cdni_base.proofs.endpoint.Endpoint.read.Goals as goal
+
+pub returns-clause-grammar : goal.returns-clause-grammar
+returns-clause-grammar c = endpoint_answers _ _ c.read_endpoint.ensures

@@ -1,0 +1,5 @@
+use Rattle.cdni_base.proofs.TargetLemmas.{target_answers}
+use Rattle.cdni_base.proofs.target.Target.read.Goals as goal
+
+pub returns-clause-grammar : goal.returns-clause-grammar
+returns-clause-grammar c = target_answers _ _ _ _ c.read_target.ensures

@@ -1,4 +1,3 @@
-pub mod Effective
 pub mod Feeds
 pub mod Places
 pub mod Running

@@ -10,31 +10,29 @@ use Rattle.cdni_base.specs.Limits.{default_limits}
 use Rattle.http_node.specs.Ahead.{Moves}
 use Rattle.http_node.specs.Answer.{answer_line}
 use Rattle.http_node.specs.Batch.{IsTold, AppendsFront, Ends}
-use Rattle.http_node.specs.History.{Entry, History, World, after, nothing, world_of, reply_in, reply_to}
+use Rattle.http_node.specs.Grammar.{Scripted, entry_of}
+use Rattle.http_node.specs.History.{History, World, after, nothing, world_of, reply_in, reply_to}
 use Rattle.http_node.specs.Lines.{Line, lines_of, NoFeed}
 use Rattle.http_node.specs.Stepped.{StepsTo}
 use Rattle.http_node.specs.declared.replaying.Stepped.TheVariants as stepped
-use Rattle.http_node.specs.Script.{form_of, form_after, next_entry, Answered, with_text, answers_from, answers}
-use Rattle.http_node.specs.declared.replaying.Form.{Form}
+use Rattle.http_node.specs.Script.{next_line, Answered, with_text, answers_from, answers}
 use Rattle.http_node.specs.declared.replaying.ReplayEnd.TheVariants as replay_end
-use Rattle.http_node.proofs.Scripts.{lines_of-line, lines_of-open, lines_of-begins, next_entry-open, next_entry-long, next_entry-fits, world_of_push, form_of_push, answers_stop, answers_next, answers_none, with_text-trans}
+use Rattle.http_node.proofs.Scripts.{lines_of-line, lines_of-open, lines_of-begins, next_line-open, next_line-long, next_line-fits, world_of_push, answers_stop, answers_next, answers_none, with_text-trans}
 
-pub record Running (left0 left held0 held : Option (List ℕ)) (ahead : List ℕ) (number at : ℕ) (form : Form) (core : World) : Type 0 where
+pub record Running (left0 left held0 held : Option (List ℕ)) (ahead : List ℕ) (number at : ℕ) (core : World) : Type 0 where
   pub h : History
   pub stands : core ≡ world_of default_limits h
-  pub formed : form ≡ form_of h
   pub taken : List ℕ
   pub written : List ℕ
   pub consumed : Consumes left0 left taken
   pub appended : Appends held0 held written
   pub rest : (more : List ℕ) → answers (taken ++ more) ≡ with_text written (answers_from default_limits number at h (lines_of (ahead ++ more)))
 
-pub running_start : (left held : Option (List ℕ)) (ahead : List ℕ) → ahead ≡ [] → (form : Form) → form ≡ form_of [] → (core : World) → core ≡ nothing default_limits → Running left left held held ahead 1 0 form core
+pub running_start : (left held : Option (List ℕ)) (ahead : List ℕ) → ahead ≡ [] → (core : World) → core ≡ nothing default_limits → Running left left held held ahead 1 0 core
 unfolding answers world_of
-running_start left held ahead empty form formed core stands = record {
+running_start left held ahead empty core stands = record {
   h = [];
   stands = stands;
-  formed = formed;
   taken = [];
   written = [];
   consumed = Consumes-nil left;
@@ -69,7 +67,7 @@ replay_unstarted left held = let told = told_whole left left [] (Consumes-nil le
 
 -- ---- one turn
 
-module _ (left0 left held0 held : Option (List ℕ)) (ahead : List ℕ) (number at : ℕ) (form : Form) (core : World) (r : Running left0 left held0 held ahead number at form core) where
+module _ (left0 left held0 held : Option (List ℕ)) (ahead : List ℕ) (number at : ℕ) (core : World) (r : Running left0 left held0 held ahead number at core) where
   -- the answers of what was read so far, of what one turn moved, and of more
   moved : (left' : Option (List ℕ)) (behind bytes more : List ℕ) (m : Moves left left' ahead behind bytes)
       → answers ((r.taken ++ m.taken) ++ more) ≡ with_text r.written (answers_from default_limits number at r.h (lines_of (bytes ++ (behind ++ more))))
@@ -85,62 +83,61 @@ module _ (left0 left held0 held : Option (List ℕ)) (ahead : List ℕ) (number 
 
   -- an answered line
   answered : (left' : Option (List ℕ)) (behind line more : List ℕ) (m : Moves left left' ahead behind (line ++ 10 ∷ [])) → NoFeed line
-      → (e : Entry) → next_entry at form (record { body = line; ended = true }) ≡ Some e
-      → answers ((r.taken ++ m.taken) ++ more) ≡ with_text (r.written ++ answer_line (reply_in core e)) (answers_from default_limits (number + 1) (at + (length line + 1)) (r.h ++ e ∷ []) (lines_of (behind ++ more)))
-  answered left' behind line more m none e is = moved_line left' behind line more m none
-      ∙ ap (with_text r.written) (answers_next default_limits number at r.h (record { body = line; ended = true }) (lines_of (behind ++ more)) e (ap (λ f. next_entry at f (record { body = line; ended = true })) (sym r.formed) ∙ is))
-      ∙ with_text-trans r.written (answer_line (reply_to default_limits r.h e)) _
-      ∙ ap (λ w. with_text (r.written ++ answer_line (reply_in w e)) (answers_from default_limits (number + 1) (at + (length line + 1)) (r.h ++ e ∷ []) (lines_of (behind ++ more)))) (sym r.stands)
+      → (l : Scripted) → next_line at (record { body = line; ended = true }) ≡ Some l
+      → answers ((r.taken ++ m.taken) ++ more) ≡ with_text (r.written ++ answer_line (reply_in core (entry_of l)) l.1.note) (answers_from default_limits (number + 1) (at + (length line + 1)) (r.h ++ entry_of l ∷ []) (lines_of (behind ++ more)))
+  answered left' behind line more m none l is = moved_line left' behind line more m none
+      ∙ ap (with_text r.written) (answers_next default_limits number at r.h (record { body = line; ended = true }) (lines_of (behind ++ more)) l is)
+      ∙ with_text-trans r.written (answer_line (reply_to default_limits r.h (entry_of l)) l.1.note) _
+      ∙ ap (λ w. with_text (r.written ++ answer_line (reply_in w (entry_of l)) l.1.note) (answers_from default_limits (number + 1) (at + (length line + 1)) (r.h ++ entry_of l ∷ []) (lines_of (behind ++ more)))) (sym r.stands)
 
   pub running_line : (left' held' : Option (List ℕ)) (behind line : List ℕ) → Moves left left' ahead behind (line ++ 10 ∷ []) → NoFeed line
-      → (e : Entry) → next_entry at form (record { body = line; ended = true }) ≡ Some e
-      → Appends held held' (answer_line (reply_in core e)) → (form' : Form) → form' ≡ form_after form e.0 → (core' : World) → core' ≡ after core e
-      → Running left0 left' held0 held' behind (number + 1) (at + (length line + 1)) form' core'
-  running_line left' held' behind line m none e is put form' formed core' stands = record {
-    h = r.h ++ e ∷ [];
-    stands = stands ∙ ap (λ w. after w e) r.stands ∙ sym (world_of_push default_limits r.h e);
-    formed = formed ∙ ap (λ f. form_after f e.0) r.formed ∙ sym (form_of_push r.h e);
+      → (l : Scripted) → next_line at (record { body = line; ended = true }) ≡ Some l
+      → Appends held held' (answer_line (reply_in core (entry_of l)) l.1.note) → (core' : World) → core' ≡ after core (entry_of l)
+      → Running left0 left' held0 held' behind (number + 1) (at + (length line + 1)) core'
+  running_line left' held' behind line m none l is put core' stands = record {
+    h = r.h ++ entry_of l ∷ [];
+    stands = stands ∙ ap (λ w. after w (entry_of l)) r.stands ∙ sym (world_of_push default_limits r.h (entry_of l));
     taken = r.taken ++ m.taken;
-    written = r.written ++ answer_line (reply_in core e);
+    written = r.written ++ answer_line (reply_in core (entry_of l)) l.1.note;
     consumed = Consumes-trans _ _ _ _ _ r.consumed m.consumed;
     appended = Appends-trans _ _ _ _ _ r.appended put;
-    rest = λ more. answered left' behind line more m none e is;
+    rest = λ more. answered left' behind line more m none l is;
   }
 
   -- a part of an answer was written
   pub replay_cut : (left' held' : Option (List ℕ)) (behind line : List ℕ) → Moves left left' ahead behind (line ++ 10 ∷ []) → NoFeed line
-      → (e : Entry) → next_entry at form (record { body = line; ended = true }) ≡ Some e
-      → (n : ℕ) → Appends held held' (take n (answer_line (reply_in core e))) → Ends left0 left' held0 held' replay_end.WriteFault
-  replay_cut left' held' behind line m none e is n put =
+      → (l : Scripted) → next_line at (record { body = line; ended = true }) ≡ Some l
+      → (n : ℕ) → Appends held held' (take n (answer_line (reply_in core (entry_of l)) l.1.note)) → Ends left0 left' held0 held' replay_end.WriteFault
+  replay_cut left' held' behind line m none l is n put =
       let told = told_whole left0 left' (r.taken ++ m.taken) (Consumes-trans _ _ _ _ _ r.consumed m.consumed) in
-      let all = ap (λ (a : Answered). a.text) (answered left' behind line told.0 m none e is) in
-      let text = answer_line (reply_in core e) in
-      let rest = (answers_from default_limits (number + 1) (at + (length line + 1)) (r.h ++ e ∷ []) (lines_of (behind ++ told.0))).text in (
+      let all = ap (λ (a : Answered). a.text) (answered left' behind line told.0 m none l is) in
+      let text = answer_line (reply_in core (entry_of l)) l.1.note in
+      let rest = (answers_from default_limits (number + 1) (at + (length line + 1)) (r.h ++ entry_of l ∷ []) (lines_of (behind ++ told.0))).text in (
         _,
         told.1,
         front held0 held' (r.written ++ take n text) (drop n text ++ rest) _ (Appends-trans _ _ _ _ _ r.appended put)
             (all ∙ ap (λ t. (r.written ++ t) ++ rest) (sym (take-append-drop n text)) ∙ regroup r.written (take n text) (drop n text) rest),
       )
 
-  module _ (left' held' : Option (List ℕ)) (behind line bytes answer shown : List ℕ) (core' : World) (pass n : ℕ)
-      (m : Moves left left' ahead behind (line ++ 10 ∷ [])) (none : NoFeed line) (step : StepsTo core core' form at bytes answer (stepped.Answered pass)) (same : bytes ≡ line)
+  module _ (left' held' : Option (List ℕ)) (behind line bytes answer shown : List ℕ) (core' : World) (n : ℕ)
+      (m : Moves left left' ahead behind (line ++ 10 ∷ [])) (none : NoFeed line) (step : StepsTo core core' at bytes answer stepped.Answered) (same : bytes ≡ line)
       (show : shown ≡ answer) (put : Appends held held' (take n shown)) where
-    the_entry : next_entry at form (record { body = line; ended = true }) ≡ Some step.0
-    the_entry = ap (λ body. next_entry at form (record { body = body; ended = true })) (sym same) ∙ step.2
+    the_entry : next_line at (record { body = line; ended = true }) ≡ Some step.0
+    the_entry = ap (λ body. next_line at (record { body = body; ended = true })) (sym same) ∙ step.1
 
     pub turn_cut : Ends left0 left' held0 held' replay_end.WriteFault
-    turn_cut = replay_cut left' held' behind line m none step.0 the_entry n (subst (λ text. Appends held held' (take n text)) (show ∙ step.4) put)
+    turn_cut = replay_cut left' held' behind line m none step.0 the_entry n (subst (λ text. Appends held held' (take n text)) (show ∙ step.3) put)
 
     pub turn_fits : at + (length line + 1) ≤ 2 ^ 40
-    turn_fits = next_entry-fits at form line step.0 the_entry
+    turn_fits = next_line-fits at line step.0 the_entry
 
-    pub turn_done : n ≡ length shown → (form' : Form) → form' ≡ form_after form pass → (len : ℕ) → len ≡ length line
-        → Running left0 left' held0 held' behind (number + 1) (at + (len + 1)) form' core'
-    turn_done all form' formed len is =
-        let whole : take n shown ≡ answer_line (reply_in core step.0) = ap (λ k. take k shown) all ∙ take-length shown ∙ show ∙ step.4 in
+    pub turn_done : n ≡ length shown → (len : ℕ) → len ≡ length line
+        → Running left0 left' held0 held' behind (number + 1) (at + (len + 1)) core'
+    turn_done all len is =
+        let whole : take n shown ≡ answer_line (reply_in core (entry_of step.0)) step.0.1.note = ap (λ k. take k shown) all ∙ take-length shown ∙ show ∙ step.3 in
         let put' = subst (λ text. Appends held held' text) whole put in
-        subst (λ k. Running left0 left' held0 held' behind (number + 1) (at + (k + 1)) form' core') (sym is)
-        (running_line left' held' behind line m none step.0 the_entry put' form' (formed ∙ ap (form_after form) (sym step.1)) core' step.3)
+        subst (λ k. Running left0 left' held0 held' behind (number + 1) (at + (k + 1)) core') (sym is)
+        (running_line left' held' behind line m none step.0 the_entry put' core' step.2)
 
   -- reading or memory failed
   so_far : (left' : Option (List ℕ)) (behind bytes : List ℕ) → Moves left left' ahead behind bytes → (script : List ℕ) × IsTold left0 script × AppendsFront held0 held (answers script).text
@@ -167,9 +164,9 @@ module _ (left0 left held0 held : Option (List ℕ)) (ahead : List ℕ) (number 
 
   -- a line is none
   stop : (left' : Option (List ℕ)) (script : List ℕ) (line : Line) (lines : List Line) → IsTold left0 script
-      → answers script ≡ with_text r.written (answers_from default_limits number at r.h (line ∷ lines)) → next_entry at form line ≡ None → Ends left0 left' held0 held (replay_end.NotALine number at)
+      → answers script ≡ with_text r.written (answers_from default_limits number at r.h (line ∷ lines)) → next_line at line ≡ None → Ends left0 left' held0 held (replay_end.NotALine number at)
   stop left' script line lines told is none =
-      let all = is ∙ ap (with_text r.written) (answers_stop default_limits number at r.h line lines (ap (λ f. next_entry at f line) (sym r.formed) ∙ none)) in
+      let all = is ∙ ap (with_text r.written) (answers_stop default_limits number at r.h line lines none) in
       (script, told, (ap (λ (a : Answered). a.stops) all, subst (λ text. Appends held0 held text) (sym (ap (λ (a : Answered). a.text) all ∙ append-nil r.written)) r.appended))
 
   -- what is left has no line feed
@@ -181,7 +178,7 @@ module _ (left0 left held0 held : Option (List ℕ)) (ahead : List ℕ) (number 
       stop left' (r.taken ++ m.taken) (record { body = b ∷ line; ended = false }) [] (told_end left0 left' _ (Consumes-trans _ _ _ _ _ r.consumed m.consumed) end)
       (r.rest m.taken ∙ ap (λ xs. with_text r.written (answers_from default_limits number at r.h (lines_of xs))) (m.parts ∙ bytes)
       ∙ ap (λ lines. with_text r.written (answers_from default_limits number at r.h lines)) (lines_of-open b line none))
-      (next_entry-open at form (b ∷ line))
+      (next_line-open at (b ∷ line))
 
   -- the line is too long
   pub replay_long : (left' : Option (List ℕ)) (behind line : List ℕ) → Moves left left' ahead behind line → NoFeed line → length line ≡ 40000000
@@ -192,11 +189,11 @@ module _ (left0 left held0 held : Option (List ℕ)) (ahead : List ℕ) (number 
       let begins = lines_of-begins b line (behind ++ told.0) none in
       stop left' _ (record { body = b ∷ line ++ begins.0; ended = begins.1 }) begins.2 told.1
       (moved left' behind (b ∷ line) told.0 m ∙ ap (λ lines. with_text r.written (answers_from default_limits number at r.h lines)) begins.3)
-      (next_entry-long at form (b ∷ line ++ begins.0) begins.1 (omega (arith, long, length-append (b ∷ line) begins.0)))
+      (next_line-long at (b ∷ line ++ begins.0) begins.1 (omega (arith, long, length-append (b ∷ line) begins.0)))
 
   -- the line has no entry
   pub replay_none : (left' : Option (List ℕ)) (behind line : List ℕ) → Moves left left' ahead behind (line ++ 10 ∷ []) → NoFeed line
-      → next_entry at form (record { body = line; ended = true }) ≡ None → Ends left0 left' held0 held (replay_end.NotALine number at)
+      → next_line at (record { body = line; ended = true }) ≡ None → Ends left0 left' held0 held (replay_end.NotALine number at)
   replay_none left' behind line m none is =
       let told = told_whole left0 left' (r.taken ++ m.taken) (Consumes-trans _ _ _ _ _ r.consumed m.consumed) in
       stop left' _ (record { body = line; ended = true }) (lines_of (behind ++ told.0)) told.1 (moved_line left' behind line told.0 m none) is

@@ -6,10 +6,10 @@ use Rattle.std.proofs.lemmas.Bool.{and_parts, and_left, and_right, cond-false, n
 use Rattle.std.proofs.lemmas.List.Sums.{fold-append}
 use Rattle.cdni_base.specs.Limits.{Bounds}
 use Rattle.http_node.specs.Answer.{answer_line}
+use Rattle.http_node.specs.Grammar.{Scripted, line_of, entry_of}
 use Rattle.http_node.specs.History.{Entry, History, after, nothing, world_of, reply_to}
 use Rattle.http_node.specs.Lines.{Line, lines_of, on_first, NoFeed}
-use Rattle.http_node.specs.Script.{form_of, form_after, next_entry, fits, Answered, with_text, answers_from}
-use Rattle.http_node.specs.declared.replaying.Form.{Form}
+use Rattle.http_node.specs.Script.{next_line, fits, Answered, with_text, answers_from}
 
 -- ---- lines
 
@@ -56,23 +56,27 @@ lines_of-begins b (c ∷ bytes) rest none =
 
 -- ---- lines that are no script lines
 
-pub next_entry-open : (at : ℕ) (form : Form) (body : List ℕ) → next_entry at form (record { body = body; ended = false }) ≡ None
-unfolding next_entry
-next_entry-open at form body = refl
+pub next_line-open : (at : ℕ) (body : List ℕ) → next_line at (record { body = body; ended = false }) ≡ None
+unfolding next_line
+next_line-open at body = refl
 
-pub next_entry-long : (at : ℕ) (form : Form) (body : List ℕ) (ended : Bool) → 40000000 ≤ length body → next_entry at form (record { body = body; ended = ended }) ≡ None
-unfolding next_entry
-next_entry-long at form body ended long = cond-false _ _ _ (and_right ended _ (and_left _ _ (lt-leb (length body + 1) 40000000 (omega arith))))
+pub next_line-long : (at : ℕ) (body : List ℕ) (ended : Bool) → 40000000 ≤ length body → next_line at (record { body = body; ended = ended }) ≡ None
+unfolding next_line
+next_line-long at body ended long = cond-false _ _ _ (and_right ended _ (and_left _ _ (lt-leb (length body + 1) 40000000 (omega arith))))
 
-in_time : (t : Bool) (o : Option Entry) (e : Entry) → cond t o None ≡ Some e → t ≡ true
+in_time : (t : Bool) (o : Option Scripted) (e : Scripted) → cond t o None ≡ Some e → t ≡ true
 in_time true o e is = refl
 in_time false o e is = absurd (cc)
 
-pub next_entry-fits : (at : ℕ) (form : Form) (body : List ℕ) (e : Entry) → next_entry at form (record { body = body; ended = true }) ≡ Some e → at + (length body + 1) ≤ 2 ^ 40
-unfolding next_entry
-next_entry-fits at form body e is =
+pub next_line-fits : (at : ℕ) (body : List ℕ) (e : Scripted) → next_line at (record { body = body; ended = true }) ≡ Some e → at + (length body + 1) ≤ 2 ^ 40
+unfolding next_line
+next_line-fits at body e is =
     let both = in_time (fits at (length body + 1)) _ e is in
     leb-true (at + (length body + 1)) (2 ^ 40) (and_parts (nat_le (length body + 1) 40000000) (nat_le (at + (length body + 1)) (2 ^ 40)) both).1
+
+pub next_line-here : (at : ℕ) (body : List ℕ) (l : Scripted) → true ≡ fits at (length body + 1) → Some l ≡ line_of body → next_line at (record { body = body; ended = true }) ≡ Some l
+unfolding next_line
+next_line-here at body l in_limits is = rw (← in_limits) (sym is)
 
 -- ---- histories
 
@@ -80,22 +84,17 @@ pub world_of_push : (limits : Bounds) (h : History) (e : Entry) → world_of lim
 unfolding world_of
 world_of_push limits h e = fold-append after (nothing limits) h (e ∷ [])
 
-pub form_of_push : (h : History) (e : Entry) → form_of (h ++ e ∷ []) ≡ form_after (form_of h) e.0
-form_of_push [] e = refl
-form_of_push (first ∷ []) e = refl
-form_of_push (first ∷ second ∷ h) e = refl
-
 -- ---- answers
 
 module _ (limits : Bounds) (number at : ℕ) (h : History) (line : Line) (lines : List Line) where
-  pub answers_stop : next_entry at (form_of h) line ≡ None → answers_from limits number at h (line ∷ lines) ≡ record { text = []; stops = Some (number, at) }
+  pub answers_stop : next_line at line ≡ None → answers_from limits number at h (line ∷ lines) ≡ record { text = []; stops = Some (number, at) }
   unfolding answers_from
   answers_stop none = rw none refl
 
-  pub answers_next : (e : Entry) → next_entry at (form_of h) line ≡ Some e
-      → answers_from limits number at h (line ∷ lines) ≡ with_text (answer_line (reply_to limits h e)) (answers_from limits (number + 1) (at + (length line.body + 1)) (h ++ e ∷ []) lines)
+  pub answers_next : (l : Scripted) → next_line at line ≡ Some l
+      → answers_from limits number at h (line ∷ lines) ≡ with_text (answer_line (reply_to limits h (entry_of l)) l.1.note) (answers_from limits (number + 1) (at + (length line.body + 1)) (h ++ entry_of l ∷ []) lines)
   unfolding answers_from
-  answers_next e some = rw some refl
+  answers_next l some = rw some refl
 
 pub answers_none : (limits : Bounds) (number at : ℕ) (h : History) → answers_from limits number at h (lines_of []) ≡ record { text = []; stops = None }
 unfolding answers_from lines_of

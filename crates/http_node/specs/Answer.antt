@@ -4,6 +4,10 @@ use Rattle.std.specs.List.{flat_map}
 use Rattle.std.specs.declared.option.Option.{Option}
 use Rattle.cdni_base.specs.Rule.{rule_status, rule_text}
 use Rattle.cdni_base.specs.declared.endpoint.Endpoint.{Endpoint}
+use Rattle.json_read.specs.declared.fault.FieldCause.{FieldCause}
+use Rattle.json_read.specs.declared.fault.FieldCause.TheVariants.{Missing, WrongKind, OutOfRange}
+use Rattle.metadata_objects.specs.declared.fault.MetaFault.{MetaFault}
+use Rattle.metadata_objects.specs.declared.fault.MetaFault.TheVariants as meta_fault
 use Rattle.http_node.specs.declared.call.Reply.{Reply}
 use Rattle.http_node.specs.declared.call.Reply.TheVariants as reply
 
@@ -23,13 +27,35 @@ endpoint_text endpoint = 32 ∷ [] ++ endpoint.host.0 ++ 58 ∷ [] ++ decimal (p
 unfoldable pub plan_text : List Endpoint → List ℕ
 plan_text plan = flat_map endpoint_text plan
 
-unfoldable pub answer_line : Reply → List ℕ
-answer_line (reply.Denied delivery rule) = codes "denied " ++ decimal delivery ++ 32 ∷ [] ++ decimal (rule_status rule) ++ 32 ∷ [] ++ rule_text rule ++ 10 ∷ []
-answer_line (reply.Miss delivery fetch plan) = codes "miss " ++ decimal delivery ++ 32 ∷ [] ++ decimal fetch ++ plan_text plan ++ 10 ∷ []
-answer_line (reply.Full count) = numbered (codes "full") count
-answer_line (reply.NotOpen number) = numbered (codes "not-open") number
-answer_line (reply.Due refresh) = numbered (codes "due") refresh
-answer_line (reply.NotDue next) = numbered (codes "not-due") next
-answer_line (reply.Installed generation) = numbered (codes "installed") generation
-answer_line (reply.Older refresh) = numbered (codes "older") refresh
-answer_line reply.Failed = codes "failed" ++ 10 ∷ []
+-- why a field does not read
+abbrev pub cause_text : FieldCause → List ℕ
+cause_text Missing = codes "missing"
+cause_text WrongKind = codes "wrong-kind"
+cause_text OutOfRange = codes "out-of-range"
+
+-- the fault of metadata; want of memory is none
+abbrev pub fault_text : MetaFault → List ℕ
+fault_text (meta_fault.TooLong len) = codes "too-long " ++ decimal len
+fault_text meta_fault.NotJson = codes "not-json"
+fault_text (meta_fault.Link path) = codes "link " ++ path
+fault_text (meta_fault.Field field) = codes "field " ++ field.path ++ 32 ∷ [] ++ cause_text field.cause
+fault_text (meta_fault.TooMany n) = codes "too-many " ++ decimal n
+fault_text (meta_fault.TooDeep n) = codes "too-deep " ++ decimal n
+fault_text meta_fault.Memory = []
+
+-- a refresh brought nothing, since its metadata did not read or there is none
+abbrev pub failed_line : Option MetaFault → List ℕ
+failed_line None = codes "failed\n"
+failed_line (Some fault) = codes "failed " ++ fault_text fault ++ 10 ∷ []
+
+-- the answer of a reply, where this was noted of the call
+unfoldable pub answer_line : Reply → Option MetaFault → List ℕ
+answer_line (reply.Denied delivery rule) said = codes "denied " ++ decimal delivery ++ 32 ∷ [] ++ decimal (rule_status rule) ++ 32 ∷ [] ++ rule_text rule ++ 10 ∷ []
+answer_line (reply.Miss delivery fetch plan) said = codes "miss " ++ decimal delivery ++ 32 ∷ [] ++ decimal fetch ++ plan_text plan ++ 10 ∷ []
+answer_line (reply.Full count) said = numbered (codes "full") count
+answer_line (reply.NotOpen number) said = numbered (codes "not-open") number
+answer_line (reply.Due refresh) said = numbered (codes "due") refresh
+answer_line (reply.NotDue next) said = numbered (codes "not-due") next
+answer_line (reply.Installed generation) said = numbered (codes "installed") generation
+answer_line (reply.Older refresh) said = numbered (codes "older") refresh
+answer_line reply.Failed said = failed_line said

@@ -5,23 +5,23 @@ use Rattle.std.specs.Option.{option_map, option_and_then}
 use Rattle.std.specs.declared.option.Option.{Option}
 use Rattle.cdni_base.specs.Limits.{Bounds}
 use Rattle.cdni_base.specs.declared.target.Asked.{Asked}
-use Rattle.metadata_objects.specs.declared.host.HostIndex.{HostIndex}
-use Rattle.http_node.specs.Evaluation.{judged}
-use Rattle.http_node.specs.declared.call.Call.{Call}
-use Rattle.http_node.specs.declared.call.Call.TheVariants.{RefreshBegin, RefreshEnd, Admit}
+use Rattle.location_acl.specs.declared.footprint.Place.{Place}
+use Rattle.metadata_objects.specs.Tree.{Index}
+use Rattle.http_node.specs.Admission.{judged}
+use Rattle.http_node.specs.Event.{Event, RefreshBegin, RefreshEnd, Admit}
 use Rattle.http_node.specs.declared.call.Reply.{Reply}
 use Rattle.http_node.specs.declared.call.Reply.TheVariants as reply
 use Rattle.http_node.specs.declared.call.OpenRefresh.{OpenRefresh}
-use Rattle.http_node.specs.declared.evaluate.Judged.{Judged}
-use Rattle.http_node.specs.declared.evaluate.Judged.TheVariants.{Allowed, Forbidden}
+use Rattle.http_node.specs.declared.admission.Judged.{Judged}
+use Rattle.http_node.specs.declared.admission.Judged.TheVariants.{Allowed, Forbidden}
 
 -- the number of a pass, and its call
 abbrev pub Entry : Type 0
-Entry = ℕ × Call
+Entry = ℕ × Event
 
 -- the installed metadata, its refresh, and the moment at which that began
 pub record Installed : Type 0 where
-  pub index : HostIndex
+  pub index : Index
   pub refresh : ℕ
   pub moment : ℕ
 
@@ -85,7 +85,7 @@ installed_reply w None = reply.Installed (w.generation + 1)
 abbrev pub begun_at : World → ℕ → ℕ → Option ℕ
 begun_at w refresh pass = option_map (λ begun. begun.moment) (find (is_open refresh pass) w.refreshes)
 
-abbrev pub end_reply : World → ℕ → Option HostIndex → Option ℕ → Reply
+abbrev pub end_reply : World → ℕ → Option Index → Option ℕ → Reply
 end_reply w refresh index None = reply.NotOpen refresh
 end_reply w refresh None (Some moment) = reply.Failed
 end_reply w refresh (Some index) (Some moment) = installed_reply w (newer w refresh)
@@ -94,11 +94,11 @@ end_reply w refresh (Some index) (Some moment) = installed_reply w (newer w refr
 abbrev pub ended : World → ℕ → ℕ → World
 ended w refresh pass = record w { refreshes = without refresh pass w.refreshes }
 
-abbrev pub after_installed : World → ℕ → HostIndex → ℕ → Reply → World
+abbrev pub after_installed : World → ℕ → Index → ℕ → Reply → World
 after_installed w refresh index moment (reply.Installed generation) = record w { installed = Some (record { index = index; refresh = refresh; moment = moment }); generation = generation }
 after_installed w refresh index moment _ = w
 
-abbrev pub after_end : World → ℕ → ℕ → Option HostIndex → Option ℕ → World
+abbrev pub after_end : World → ℕ → ℕ → Option Index → Option ℕ → World
 after_end w pass refresh index None = w
 after_end w pass refresh None (Some moment) = ended w refresh pass
 after_end w pass refresh (Some index) (Some moment) = after_installed (ended w refresh pass) refresh index moment (installed_reply w (newer w refresh))
@@ -110,9 +110,9 @@ judged_reply w (Allowed plan) = reply.Miss (w.delivered + 1) (w.fetched + 1) pla
 judged_reply w (Forbidden rule) = reply.Denied (w.delivered + 1) rule
 
 -- full of open deliveries, full of what was opened, or judged
-abbrev pub admit_reply : World → Asked → Reply
-admit_reply w asked = if w.delivered == w.limits.rows then reply.Full w.delivered else
-    (if w.opened == w.limits.opened then reply.Full w.opened else judged_reply w (judged (option_map (λ i. i.index) w.installed) asked))
+abbrev pub admit_reply : World → Asked → Place → ℕ → Reply
+admit_reply w asked place moment = if w.delivered == w.limits.rows then reply.Full w.delivered else
+    (if w.opened == w.limits.opened then reply.Full w.opened else judged_reply w (judged (option_map (λ i. i.index) w.installed) asked place moment))
 
 abbrev pub after_admit : World → Reply → World
 after_admit w (reply.Miss delivery fetch plan) = record w { delivered = delivery; fetched = fetch; opened = w.opened + 1 }
@@ -125,13 +125,13 @@ after_admit w _ = w
 unfoldable pub reply_in : World → Entry → Reply
 reply_in w (pass, RefreshBegin moment) = begin_reply w (next_due w moment)
 reply_in w (pass, RefreshEnd refresh index moment) = end_reply w refresh index (begun_at w refresh pass)
-reply_in w (pass, Admit asked moment) = admit_reply w asked
+reply_in w (pass, Admit asked place moment) = admit_reply w asked place moment
 
 -- what it leaves
 unfoldable pub after : World → Entry → World
 after w (pass, RefreshBegin moment) = after_begin w pass moment (begin_reply w (next_due w moment))
 after w (pass, RefreshEnd refresh index moment) = after_end w pass refresh index (begun_at w refresh pass)
-after w (pass, Admit asked moment) = after_admit w (admit_reply w asked)
+after w (pass, Admit asked place moment) = after_admit w (admit_reply w asked place moment)
 
 abbrev pub History : Type 0
 History = List Entry

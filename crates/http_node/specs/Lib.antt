@@ -1,7 +1,8 @@
+pub mod Admission
 pub mod Ahead
 pub mod Answer
 pub mod Batch
-pub mod Evaluation
+pub mod Event
 pub mod Grammar
 pub mod History
 pub mod Lines

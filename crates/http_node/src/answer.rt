@@ -2,17 +2,23 @@
 
 ghost use Rattle.std.specs.Prelude.{◌≡◌, ◌++◌, ◌∷◌, [], OnOk, codes, decimal};
 ghost use Rattle.cdni_base.specs.Rule.{number_or_dash, rule_status, rule_text};
-ghost use Rattle.http_node.specs.Answer.{numbered, endpoint_text, plan_text, answer_line};
+ghost use Rattle.http_node.specs.Answer.{numbered, endpoint_text, plan_text, cause_text, fault_text, failed_line, answer_line};
 
 use crate::call::Reply;
 use cdni_base::{Endpoint, Rule};
 use itoa::Buffer;
+use json_read::{FieldCause, FieldFault};
+use metadata_objects::MetaFault;
 use std::alloc::AllocError;
 
-// adds the answer line of the reply
+// adds the answer line of the reply, where this was noted of the call
 #[tactic(auto, unfolding(crate::specs::Answer::answer_line))]
-pub(crate) fn put_answer(out: &mut Vec<u8>, reply: &Reply) -> Result<(), AllocError>
-    ensures { OnOk result (out.new.items ≡ out.old.items ++ answer_line reply.now) }
+pub(crate) fn put_answer(
+    out: &mut Vec<u8>,
+    reply: &Reply,
+    note: &Option<MetaFault>,
+) -> Result<(), AllocError>
+    ensures { OnOk result (out.new.items ≡ out.old.items ++ answer_line reply.now note.now) }
 {
     match reply {
         Reply::Denied { delivery, rule } => put_denied(out, *delivery, rule),
@@ -27,7 +33,7 @@ pub(crate) fn put_answer(out: &mut Vec<u8>, reply: &Reply) -> Result<(), AllocEr
         Reply::NotDue { next } => put_numbered(out, b"not-due", *next),
         Reply::Installed { generation } => put_numbered(out, b"installed", *generation),
         Reply::Older { refresh } => put_numbered(out, b"older", *refresh),
-        Reply::Failed => put(out, b"failed\n"),
+        Reply::Failed => put_failed(out, note),
     }
 }
 
@@ -51,6 +57,50 @@ fn put_numbered(out: &mut Vec<u8>, word: &[u8], number: u64) -> Result<(), Alloc
     put(out, b" ")?;
     put_number(out, number)?;
     put(out, b"\n")
+}
+
+fn put_failed(out: &mut Vec<u8>, note: &Option<MetaFault>) -> Result<(), AllocError>
+    ensures { OnOk result (out.new.items ≡ out.old.items ++ failed_line note.now) }
+{
+    let Some(fault) = note else {
+        return put(out, b"failed\n");
+    };
+    put(out, b"failed ")?;
+    put_fault(out, fault)?;
+    put(out, b"\n")
+}
+
+fn put_fault(out: &mut Vec<u8>, fault: &MetaFault) -> Result<(), AllocError>
+    ensures { OnOk result (out.new.items ≡ out.old.items ++ fault_text fault.now) }
+{
+    match fault {
+        MetaFault::TooLong { len } => put_word_number(out, b"too-long ", Some(*len as u64)),
+        MetaFault::NotJson => put(out, b"not-json"),
+        MetaFault::Link { path } => put_two(out, b"link ", path.bytes()),
+        MetaFault::Field(field) => put_field(out, field),
+        MetaFault::TooMany { n } => put_word_number(out, b"too-many ", Some(*n as u64)),
+        MetaFault::TooDeep { n } => put_word_number(out, b"too-deep ", Some(*n as u64)),
+        MetaFault::Memory => Ok(()),
+    }
+}
+
+fn put_field(out: &mut Vec<u8>, field: &FieldFault) -> Result<(), AllocError>
+    ensures { OnOk result (out.new.items ≡ out.old.items ++ (codes "field " ++ field.now.path ++ 32 ∷ [] ++ cause_text field.now.cause)) }
+{
+    put(out, b"field ")?;
+    put(out, field.path.bytes())?;
+    put(out, b" ")?;
+    put(out, cause_text(field.cause))
+}
+
+fn cause_text(cause: FieldCause) -> &'static [u8]
+    ensures { result.now ≡ cause_text cause }
+{
+    match cause {
+        FieldCause::Missing => b"missing",
+        FieldCause::WrongKind => b"wrong-kind",
+        FieldCause::OutOfRange => b"out-of-range",
+    }
 }
 
 fn put_denied(out: &mut Vec<u8>, delivery: u64, rule: &Rule) -> Result<(), AllocError>

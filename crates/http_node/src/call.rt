@@ -2,7 +2,8 @@
 
 use cdni_base::{Asked, EndpointList, Rule};
 use edge_base::Moment;
-use metadata_objects::HostIndex;
+use location_acl::Place;
+use metadata_objects::{HostIndex, MetaFault};
 
 /// One event that the core is asked to take in.
 #[derive(Drop)]
@@ -17,11 +18,26 @@ pub enum Call {
         index: Option<HostIndex>,
         moment: Moment,
     },
-    /// A client's request would be delivered.
+    /// The request of a client at this place would be delivered.
     Admit {
         asked: Asked,
+        place: Place,
         moment: Moment,
     },
+}
+
+/// A call, and why the metadata that it would bring did not read.
+#[derive(Drop)]
+pub struct NotedCall {
+    pub call: Call,
+    pub note: Option<MetaFault>,
+}
+
+/// A line of a script: the pass that calls, and its call.
+#[derive(Drop)]
+pub struct ScriptLine {
+    pub pass: u32,
+    pub noted: NotedCall,
 }
 
 /// What a call is answered. Refreshes, deliveries and fetches are numbered from 1.

@@ -1,11 +1,11 @@
 //! The node as a program: the top calls.
 #![tactic(auto)]
 
+mod admission;
 mod ahead;
 mod answer;
 mod batch;
 mod call;
-mod evaluate;
 mod replaying;
 mod script;
 mod step;

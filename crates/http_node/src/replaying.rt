@@ -2,30 +2,18 @@
 
 ghost use Rattle.std.specs.Prelude.{◌≡◌, ◌+◌, ◌≤◌};
 ghost use Rattle.edge_base.specs.Causes.{Rose};
-ghost use Rattle.http_node.specs.History.{after, reply_in};
-ghost use Rattle.http_node.specs.Script.{is_next, form_after, fits};
+ghost use Rattle.http_node.specs.Script.{fits};
 ghost use Rattle.http_node.specs.Batch.{Ends};
 ghost use Rattle.http_node.specs.Stepped.{StepsTo};
 
 use crate::ahead::{Ahead, LineRead};
 use crate::answer::put_answer;
-use crate::call::Call;
-use crate::script::read_entry;
+use crate::call::ScriptLine;
+use crate::script::read_line;
 use crate::step::Core;
 use cdni_base::Limits;
 use edge_base::{Sink, Source, write_counted};
 use std::alloc::Global;
-
-/// What the next line of a script must be.
-#[derive(Clone, Copy, Debug, PartialEq, Eq)]
-pub enum Form {
-    /// A refresh.
-    Opening,
-    /// The metadata of the first refresh, by this pass.
-    Document(u32),
-    /// A request.
-    Requests,
-}
 
 /// How a replay ended.
 #[derive(Clone, Copy, Debug, PartialEq, Eq)]
@@ -46,8 +34,8 @@ pub enum ReplayEnd {
 /// What a line of the script gave.
 #[derive(Clone, Copy, Debug, PartialEq, Eq)]
 pub enum Stepped {
-    /// An answer, to the call of this pass.
-    Answered(u32),
+    /// An answer.
+    Answered,
     /// It is no script line.
     NotALine,
     /// Want of memory.
@@ -66,7 +54,6 @@ pub(crate) fn replay<S: Source, K: Sink>(alloc: Global, input: &mut S, output: &
         return ReplayEnd::Memory;
     };
     let mut core = Core::new(alloc, Limits::standard());
-    let mut form = Form::Opening;
     let mut line = Vec::new(alloc);
     let mut answer = Vec::new(alloc);
     let mut number: u64 = 1;
@@ -84,8 +71,8 @@ pub(crate) fn replay<S: Source, K: Sink>(alloc: Global, input: &mut S, output: &
             LineRead::Failed => return ReplayEnd::ReadFault,
             LineRead::Memory => return ReplayEnd::Memory,
         }
-        match answer_one(alloc, &mut core, form, at, &line, &mut answer) {
-            Stepped::Answered(pass) => form = next_form(form, pass),
+        match answer_one(alloc, &mut core, at, &line, &mut answer) {
+            Stepped::Answered => {}
             Stepped::NotALine => return ReplayEnd::NotALine { line: number, at },
             Stepped::Memory => return ReplayEnd::Memory,
         }
@@ -97,69 +84,31 @@ pub(crate) fn replay<S: Source, K: Sink>(alloc: Global, input: &mut S, output: &
     }
 }
 
-fn next_form(form: Form, pass: u32) -> Form
-    ensures { result ≡ form_after form pass }
-{
-    match form {
-        Form::Opening => Form::Document(pass),
-        Form::Document(_) => Form::Requests,
-        Form::Requests => Form::Requests,
-    }
-}
-
-fn may_follow(form: Form, pass: u32, call: &Call) -> bool
-    ensures { result ≡ is_next form pass call.now }
-{
-    match (form, call) {
-        (Form::Opening, Call::RefreshBegin { moment: _ }) => true,
-        (
-            Form::Document(opener),
-            Call::RefreshEnd {
-                refresh,
-                index: _,
-                moment: _,
-            },
-        ) => opener == pass && *refresh == 1,
-        (
-            Form::Requests,
-            Call::Admit {
-                asked: _,
-                moment: _,
-            },
-        ) => true,
-        _ => false,
-    }
-}
-
 // answers the line that begins at this place of the script; the answer takes the place of what was there
-#[tactic(auto, unfolding(crate::specs::Script::next_entry))]
+#[tactic(auto, unfolding(crate::specs::Script::next_line))]
 fn answer_one(
     alloc: Global,
     core: &mut Core,
-    form: Form,
     at: u64,
     line: &[u8],
     answer: &mut Vec<u8>,
 ) -> Stepped
-    ensures { StepsTo core.old core.new form at line.now answer.new.items result }
+    ensures { StepsTo core.old core.new at line.now answer.new.items result }
 {
     if !is_in_limits(at, line.len()) {
         return Stepped::NotALine;
     }
-    let (pass, call) = match read_entry(alloc, line) {
-        Ok(Some(entry)) => entry,
+    let ScriptLine { pass, noted } = match read_line(alloc, line) {
+        Ok(Some(line)) => line,
         Ok(None) => return Stepped::NotALine,
         Err(_) => return Stepped::Memory,
     };
-    if !may_follow(form, pass, &call) {
-        return Stepped::NotALine;
-    }
-    let Ok(reply) = core.call(alloc, pass, call) else {
+    let Ok(reply) = core.call(alloc, pass, noted.call) else {
         return Stepped::Memory;
     };
     answer.clear();
-    match put_answer(answer, &reply) {
-        Ok(()) => Stepped::Answered(pass),
+    match put_answer(answer, &reply, &noted.note) {
+        Ok(()) => Stepped::Answered,
         Err(_) => Stepped::Memory,
     }
 }

@@ -1,23 +1,24 @@
 //! The lines of a script.
 
-ghost use Rattle.std.specs.Prelude.{◌≡◌, ◌==◌, ◌<◌, length, IfOk, IfSome, position};
+ghost use Rattle.std.specs.Prelude.{◌≡◌, ◌<◌, IfOk, IfSome, option_map};
 ghost use Rattle.std.specs.List.{list_all};
-ghost use Rattle.std.specs.Result.{result_ok};
-ghost use Rattle.cdni_base.specs.Endpoint.{endpoint_of};
+ghost use Rattle.location_acl.specs.Footprint.{asn_of, country_of};
 ghost use Rattle.metadata_objects.specs.Host.{host_index_of_text};
-ghost use Rattle.http_node.specs.Grammar.{number_below, is_path_byte, target_after, target_of, is_url, are_urls, is_token_byte, is_method, protocol_of, is_octet, is_address, is_network, is_country, asked_of, get_of, meta_of, call_of, entry_of};
+ghost use Rattle.http_node.specs.Event.{event_of, noted_of};
+ghost use Rattle.http_node.specs.Grammar.{number_below, url_target, is_url, are_urls, is_token_byte, is_method, protocol_of, optional, place_at, asked_of, get_of, refreshed, meta_of, plain, call_of, line_of};
 
-use crate::call::Call;
-use cdni_base::{Asked, Endpoint, EndpointFault, Protocol, Target, Text};
+use crate::call::{Call, NotedCall, ScriptLine};
+use cdni_base::{Asked, Protocol, Target, TargetFault, Text};
 use edge_base::Moment;
 use listing::{cut_at, read_decimal};
+use location_acl::{Ip, Place, asn_of, country_of};
 use metadata_objects::{HostIndex, MetaFault};
 use std::alloc::{AllocError, Global};
 
-// the pass and the call of a line, if it is in the grammar
-#[tactic(auto, unfolding(crate::specs::Grammar::entry_of))]
-pub(crate) fn read_entry(alloc: Global, line: &[u8]) -> Result<Option<(u32, Call)>, AllocError>
-    ensures { IfOk result (λ found. found ≡ entry_of line.now) }
+// the script line that these bytes are, if they are one
+#[tactic(auto, unfolding(crate::specs::Grammar::line_of))]
+pub(crate) fn read_line(alloc: Global, line: &[u8]) -> Result<Option<ScriptLine>, AllocError>
+    ensures { IfOk result (λ found. option_map (λ l. (l.pass, noted_of l.noted)) found ≡ line_of line.now) }
 {
     let Some((pass, rest)) = cut_at(b' ', line) else {
         return Ok(None);
@@ -32,7 +33,10 @@ pub(crate) fn read_entry(alloc: Global, line: &[u8]) -> Result<Option<(u32, Call
         return Ok(None);
     };
     match read_call(alloc, moment, rest)? {
-        Some(call) => Ok(Some((number as u32, call))),
+        Some(noted) => Ok(Some(ScriptLine {
+            pass: number as u32,
+            noted,
+        })),
         None => Ok(None),
     }
 }
@@ -49,11 +53,11 @@ fn read_below(bound: u64, text: &[u8]) -> Option<u64>
 }
 
 #[tactic(auto, unfolding(crate::specs::Grammar::call_of))]
-fn read_call(alloc: Global, moment: Moment, text: &[u8]) -> Result<Option<Call>, AllocError>
-    ensures { IfOk result (λ found. found ≡ call_of moment text.now) }
+fn read_call(alloc: Global, moment: Moment, text: &[u8]) -> Result<Option<NotedCall>, AllocError>
+    ensures { IfOk result (λ found. option_map noted_of found ≡ call_of moment text.now) }
 {
     if text == b"refresh".as_slice() {
-        return Ok(Some(Call::RefreshBegin { moment }));
+        return Ok(Some(plain(Call::RefreshBegin { moment })));
     }
     let Some((word, rest)) = cut_at(b' ', text) else {
         return Ok(None);
@@ -62,15 +66,22 @@ fn read_call(alloc: Global, moment: Moment, text: &[u8]) -> Result<Option<Call>,
         return read_meta(alloc, moment, rest);
     }
     if word == b"get".as_slice() {
-        return read_get(alloc, moment, rest);
+        return Ok(read_get(alloc, moment, rest)?.map(plain));
     }
     Ok(None)
 }
 
+// a call of which nothing is noted
+fn plain(call: Call) -> NotedCall
+    ensures { noted_of result ≡ plain (event_of call) }
+{
+    NotedCall { call, note: None }
+}
+
 // R URLS JSON
 #[tactic(auto, unfolding(crate::specs::Grammar::meta_of))]
-fn read_meta(alloc: Global, moment: Moment, text: &[u8]) -> Result<Option<Call>, AllocError>
-    ensures { IfOk result (λ found. found ≡ meta_of moment text.now) }
+fn read_meta(alloc: Global, moment: Moment, text: &[u8]) -> Result<Option<NotedCall>, AllocError>
+    ensures { IfOk result (λ found. option_map noted_of found ≡ meta_of moment text.now) }
 {
     let Some((number, rest)) = cut_at(b' ', text) else {
         return Ok(None);
@@ -84,29 +95,37 @@ fn read_meta(alloc: Global, moment: Moment, text: &[u8]) -> Result<Option<Call>,
     if !are_urls(alloc, urls)? {
         return Ok(None);
     }
-    let index = read_index(alloc, json)?;
-    Ok(Some(Call::RefreshEnd {
-        refresh,
-        index,
-        moment,
-    }))
+    Ok(Some(refreshed(alloc, refresh, moment, json)?))
 }
 
-// the HostIndex of a text, if it is one
-fn read_index(alloc: Global, json: &[u8]) -> Result<Option<HostIndex>, AllocError>
-    ensures { IfOk result (λ found. found ≡ result_ok (host_index_of_text json.now)) }
+// the end of a refresh with the metadata of this text, or without, and then the fault is noted
+fn refreshed(
+    alloc: Global,
+    refresh: u64,
+    moment: Moment,
+    json: &[u8],
+) -> Result<NotedCall, AllocError>
+    ensures { IfOk result (λ noted. noted_of noted ≡ refreshed refresh moment (host_index_of_text json.now)) }
 {
-    match HostIndex::read(alloc, json) {
-        Ok(index) => Ok(Some(index)),
-        Err(MetaFault::Memory) => Err(AllocError),
-        Err(_) => Ok(None),
-    }
+    let (index, note) = match HostIndex::read(alloc, json) {
+        Ok(index) => (Some(index), None),
+        Err(MetaFault::Memory) => return Err(AllocError),
+        Err(fault) => (None, Some(fault)),
+    };
+    Ok(NotedCall {
+        call: Call::RefreshEnd {
+            refresh,
+            index,
+            moment,
+        },
+        note,
+    })
 }
 
 // METHOD PROTOCOL IP ASN CC URL
 #[tactic(auto, unfolding(crate::specs::Grammar::get_of))]
 fn read_get(alloc: Global, moment: Moment, text: &[u8]) -> Result<Option<Call>, AllocError>
-    ensures { IfOk result (λ found. found ≡ get_of moment text.now) }
+    ensures { IfOk result (λ found. option_map event_of found ≡ get_of moment text.now) }
 {
     let Some((method, rest)) = cut_at(b' ', text) else {
         return Ok(None);
@@ -123,12 +142,55 @@ fn read_get(alloc: Global, moment: Moment, text: &[u8]) -> Result<Option<Call>, 
     let Some((country, url)) = cut_at(b' ', rest) else {
         return Ok(None);
     };
-    if !is_address(address) || !is_network(network) || !is_country(country) {
+    let Some(place) = read_place(address, network, country) else {
         return Ok(None);
-    }
+    };
     match read_asked(alloc, method, protocol, url)? {
-        Some(asked) => Ok(Some(Call::Admit { asked, moment })),
+        Some(asked) => Ok(Some(Call::Admit {
+            asked,
+            place,
+            moment,
+        })),
         None => Ok(None),
+    }
+}
+
+// the place of an address, a network or `-`, and a country or `-`
+#[tactic(auto, unfolding(crate::specs::Grammar::place_at))]
+fn read_place(address: &[u8], network: &[u8], country: &[u8]) -> Option<Place>
+    ensures { result ≡ place_at address.now network.now country.now }
+{
+    let Ok(ip) = Ip::read(address) else {
+        return None;
+    };
+    let asn = read_network(network)?;
+    let country = read_country(country)?;
+    Some(Place { ip, asn, country })
+}
+
+// `-` for none, or `as` and a number
+fn read_network(text: &[u8]) -> Option<Option<u32>>
+    ensures { result ≡ optional asn_of text.now }
+{
+    if text == b"-".as_slice() {
+        return Some(None);
+    }
+    match asn_of(text) {
+        Some(number) => Some(Some(number)),
+        None => None,
+    }
+}
+
+// `-` for none, or two lower-case letters
+fn read_country(text: &[u8]) -> Option<Option<(u8, u8)>>
+    ensures { result ≡ optional country_of text.now }
+{
+    if text == b"-".as_slice() {
+        return Some(None);
+    }
+    match country_of(text) {
+        Some(letters) => Some(Some(letters)),
+        None => None,
     }
 }
 
@@ -190,47 +252,6 @@ fn read_protocol(text: &[u8]) -> Option<Protocol>
     }
 }
 
-// whether these are four numbers from 0 to 255, joined by points
-#[tactic(auto, unfolding(crate::specs::Grammar::is_address))]
-fn is_address(text: &[u8]) -> bool
-    ensures { result ≡ is_address text.now }
-{
-    let Some((first, rest)) = cut_at(b'.', text) else {
-        return false;
-    };
-    let Some((second, rest)) = cut_at(b'.', rest) else {
-        return false;
-    };
-    let Some((third, fourth)) = cut_at(b'.', rest) else {
-        return false;
-    };
-    is_octet(first) && is_octet(second) && is_octet(third) && is_octet(fourth)
-}
-
-fn is_octet(text: &[u8]) -> bool
-    ensures { result ≡ is_octet text.now }
-{
-    read_below(256, text).is_some()
-}
-
-#[tactic(auto, unfolding(crate::specs::Grammar::is_network))]
-fn is_network(text: &[u8]) -> bool
-    ensures { result ≡ is_network text.now }
-{
-    text == b"-".as_slice()
-        || (text.len() >= 2
-            && &text[..2] == b"as".as_slice()
-            && read_below(4294967296, &text[2..]).is_some())
-}
-
-#[tactic(auto, unfolding(crate::specs::Grammar::is_country))]
-fn is_country(text: &[u8]) -> bool
-    ensures { result ≡ is_country text.now }
-{
-    text == b"-".as_slice()
-        || (text.len() == 2 && text.iter().all(|byte| byte.is_ascii_lowercase()))
-}
-
 // whether these are URLs joined by bars
 fn are_urls(alloc: Global, text: &[u8]) -> Result<bool, AllocError>
     ensures { IfOk result (λ answer. answer ≡ are_urls text.now) }
@@ -251,64 +272,13 @@ fn is_url(alloc: Global, text: &[u8]) -> Result<bool, AllocError>
     Ok(read_target(alloc, text)?.is_some())
 }
 
-// the target of a URL
-#[tactic(auto, unfolding(crate::specs::Grammar::target_of))]
+// the target of an absolute URL
 fn read_target(alloc: Global, url: &[u8]) -> Result<Option<Target>, AllocError>
-    ensures { IfOk result (λ found. found ≡ target_of url.now) }
+    ensures { IfOk result (λ found. found ≡ url_target url.now) }
 {
-    if url.len() > 4096 || url.len() < 7 || &url[..7] != b"http://".as_slice() {
-        return Ok(None);
-    }
-    read_target_after(alloc, &url[7..])
-}
-
-#[tactic(auto, unfolding(crate::specs::Grammar::target_after))]
-fn read_target_after(alloc: Global, rest: &[u8]) -> Result<Option<Target>, AllocError>
-    ensures { IfOk result (λ found. found ≡ target_after rest.now) }
-{
-    let Some(place) = slash_place(rest) else {
-        return Ok(None);
-    };
-    let Some(endpoint) = read_endpoint(alloc, &rest[..place])? else {
-        return Ok(None);
-    };
-    let path = &rest[place..];
-    if !is_path(path) {
-        return Ok(None);
-    }
-    Ok(Some(Target {
-        host: endpoint.host,
-        port: endpoint.port.unwrap_or(80),
-        path: Text::of(alloc, path)?,
-        query: None,
-    }))
-}
-
-fn slash_place(text: &[u8]) -> Option<usize>
-    ensures place { result ≡ position (λ byte. byte == 47) text.now }
-    ensures within { IfSome result (λ place. place < length text.now) }
-{
-    text.iter().position(|byte| *byte == b'/')
-}
-
-fn is_path(text: &[u8]) -> bool
-    ensures { result ≡ list_all is_path_byte text.now }
-{
-    text.iter().all(|byte| is_path_byte(*byte))
-}
-
-fn is_path_byte(byte: u8) -> bool
-    ensures { result ≡ is_path_byte byte }
-{
-    byte.is_ascii_alphanumeric() || byte == b'.' || byte == b'-' || byte == b'_' || byte == b'/'
-}
-
-fn read_endpoint(alloc: Global, text: &[u8]) -> Result<Option<Endpoint>, AllocError>
-    ensures { IfOk result (λ found. found ≡ result_ok (endpoint_of text.now)) }
-{
-    match Endpoint::read(alloc, text) {
-        Ok(endpoint) => Ok(Some(endpoint)),
-        Err(EndpointFault::Memory) => Err(AllocError),
+    match Target::read(alloc, url, None, false) {
+        Ok(target) => Ok(Some(target)),
+        Err(TargetFault::Memory) => Err(AllocError),
         Err(_) => Ok(None),
     }
 }

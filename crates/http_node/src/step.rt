@@ -1,13 +1,16 @@
 //! The core: one call after the other.
 
-ghost use Rattle.std.specs.Prelude.{◌≡◌, ◌+◌, ◌<◌, ◌≤◌, length, IfOk, OnOk, OnErr, OnSome, MatchOption, None, slice_get};
+ghost use Rattle.std.specs.Prelude.{◌≡◌, ◌+◌, ◌<◌, ◌≤◌, length, IfOk, OnOk, OnErr, OnSome, MatchOption, None, slice_get, option_map};
 ghost use Rattle.std.specs.List.{find, remove};
+ghost use Rattle.metadata_objects.specs.Tree.{index_view};
+ghost use Rattle.http_node.specs.Event.{event_of};
 ghost use Rattle.http_node.specs.History.{is_open, without};
 
 use crate::call::{Call, OpenRefresh, Reply};
-use crate::evaluate::{Judged, judge};
+use crate::admission::{Judged, judge_request};
 use cdni_base::{Asked, Limits};
 use edge_base::Moment;
+use location_acl::Place;
 use metadata_objects::HostIndex;
 use std::alloc::{AllocError, Global};
 use std::marker::Model;
@@ -34,15 +37,23 @@ pub struct Core {
 
 impl Model for Core {
     ghost use Rattle.std.specs.Prelude.{◌+◌, ◌≤◌, length, option_map};
+    ghost use Rattle.metadata_objects.specs.Tree.{index_view};
     ghost use Rattle.http_node.specs.History.{World};
 
     ghost Value = { World };
+
+    ghost use Rattle.std.specs.Coded.{codes, coded_list, coded×, coded_ℕ};
+    ghost use Rattle.metadata_objects.specs.Coding.{tree_code};
+    ghost use Rattle.metadata_objects.specs.contracts.generic.Generic as generic;
+    ghost use Rattle.pattern_match.specs.contracts.pattern.Pattern as pattern;
+
+    ghost coded = { Prim.hlevel (codes, tree_code (coded_list (coded× pattern.the_row.coded (coded× (coded_list generic.the_row.coded) coded_ℕ)))) };
 
     ghost view = { λ c. record {
       limits = c.limits;
       refreshed = c.refreshed;
       refreshes = c.refreshes.items;
-      installed = option_map (λ i. record { index = i.index; refresh = i.refresh; moment = i.moment }) c.installed;
+      installed = option_map (λ i. record { index = index_view i.index; refresh = i.refresh; moment = i.moment }) c.installed;
       generation = c.generation;
       delivered = c.delivered;
       fetched = c.fetched;
@@ -77,8 +88,8 @@ impl Core {
     /// Want of memory. The state is then as before.
     #[tactic(auto, unfolding(crate::specs::History::reply_in, crate::specs::History::after))]
     pub fn call(&mut self, alloc: Global, pass: u32, call: Call) -> Result<Reply, AllocError>
-        ensures reply { IfOk result (λ r. r ≡ reply_in self.old (pass, call)) }
-        ensures after { OnOk result (self.new ≡ after self.old (pass, call)) }
+        ensures reply { IfOk result (λ r. r ≡ reply_in self.old (pass, event_of call)) }
+        ensures after { OnOk result (self.new ≡ after self.old (pass, event_of call)) }
         ensures err { OnErr result (self.new ≡ self.old) }
     {
         match call {
@@ -88,7 +99,11 @@ impl Core {
                 index,
                 moment: _,
             } => Ok(self.refresh_end(pass, refresh, index)),
-            Call::Admit { asked, moment: _ } => self.admit(alloc, &asked),
+            Call::Admit {
+                asked,
+                place,
+                moment,
+            } => self.admit(alloc, &asked, &place, moment),
         }
     }
 
@@ -130,8 +145,8 @@ impl Core {
     }
 
     fn refresh_end(&mut self, pass: u32, refresh: u64, index: Option<HostIndex>) -> Reply
-        ensures reply { result ≡ end_reply self.old refresh index (begun_at self.old refresh pass) }
-        ensures after { self.new ≡ after_end self.old pass refresh index (begun_at self.old refresh pass) }
+        ensures reply { result ≡ end_reply self.old refresh (option_map index_view index) (begun_at self.old refresh pass) }
+        ensures after { self.new ≡ after_end self.old pass refresh (option_map index_view index) (begun_at self.old refresh pass) }
     {
         let Some(moment) = self.end_open(pass, refresh) else {
             return Reply::NotOpen { number: refresh };
@@ -158,7 +173,7 @@ impl Core {
     fn install(&mut self, refresh: u64, index: HostIndex, moment: Moment) -> Reply
         requires { self.old.generation + length self.old.refreshes < self.old.refreshed }
         ensures reply { result ≡ installed_reply self.old (newer self.old refresh) }
-        ensures after { self.new ≡ after_installed self.old refresh index moment result }
+        ensures after { self.new ≡ after_installed self.old refresh (index_view index) moment result }
     {
         if let Some(refresh) = self.newer(refresh) {
             return Reply::Older { refresh };
@@ -184,8 +199,14 @@ impl Core {
         }
     }
 
-    fn admit(&mut self, alloc: Global, asked: &Asked) -> Result<Reply, AllocError>
-        ensures reply { IfOk result (λ r. r ≡ admit_reply self.old asked.now) }
+    fn admit(
+        &mut self,
+        alloc: Global,
+        asked: &Asked,
+        place: &Place,
+        moment: Moment,
+    ) -> Result<Reply, AllocError>
+        ensures reply { IfOk result (λ r. r ≡ admit_reply self.old asked.now place.now moment) }
         ensures after { IfOk result (λ r. self.new ≡ after_admit self.old r) }
         ensures err { OnErr result (self.new ≡ self.old) }
     {
@@ -197,10 +218,12 @@ impl Core {
         if self.opened == self.limits.opened {
             return Ok(Reply::Full { count: self.opened });
         }
-        let answer = judge(
+        let answer = judge_request(
             alloc,
             self.installed.as_ref().map(|installed| &installed.index),
             asked,
+            place,
+            moment,
         )?;
         let delivery = self.delivered + 1;
         self.delivered = delivery;

@@ -13,5 +13,5 @@ mod six;
 
 pub use acl::{FootprintList, LocationAcl, LocationRule, LocationRuleList};
 pub use block::{Block, BlockFault};
-pub use footprint::{Footprint, Place};
+pub use footprint::{Footprint, Place, asn_of, country_of};
 pub use ip::{AddressFault, Ip};

@@ -1,4 +1,5 @@
 pub mod Cache
+pub mod Coding
 pub mod Generic
 pub mod Host
 pub mod Items

@@ -1,7 +1,0 @@
-use Rattle.std.proofs.Common.{◌≡◌, drop}
-use Rattle.std.specs.List.{find}
-use Rattle.http_node.specs.Evaluation.{is_of_kind}
-use Rattle.http_node.proofs.evaluate.first_of_kind.Given as goal
-
-abbrev pub invariant-objects : goal.invariant-objects
-invariant-objects l = find (is_of_kind l.kind) (drop l.object-index l.objects) ≡ find (is_of_kind l.kind) l.objects

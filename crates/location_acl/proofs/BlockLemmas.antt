@@ -1,15 +1,16 @@
 -- Reading a block against its grammar.
 use Rattle.std.proofs.Common.{◌≡◌, ℕ, ◌+◌, ◌-◌, ◌*◌, ◌^◌, ◌<◌, ◌≤◌, leb, ltb, eqb, Bool, true, false, cond, not, List, [], ◌∷◌, length, Option, Some, None, Result, Ok, Err, refl, ap, sym, subst, ◌∙◌, arith, ⊎_elim, lit<}
 use Rattle.std.specs.Prelude.{◌&&◌, nat_lt, nat_le, option_map, option_and_then}
-use Rattle.std.specs.Char.{is_ascii_digit, digit_value}
+use Rattle.std.specs.Char.{is_ascii_digit, is_digit, digit_value}
 use Rattle.std.specs.Str.{all_ascii_digits}
 use Rattle.std.specs.Str.Parse.{digits_value, digits_value_after}
-use Rattle.std.proofs.lemmas.Bool.{cases_Bool, and_parts, and_from, cond-true, cond-false, lt-ltb, le-ltb, le-leb, leb-true, ltb-true, ne_eqb}
+use Rattle.std.proofs.lemmas.Bool.{and_left, cases_Bool, and_parts, and_from, cond-true, cond-false, lt-ltb, le-ltb, le-leb, leb-true, ltb-true, ne_eqb}
 use Rattle.listing.specs.Word.{parts_at}
 use Rattle.listing.specs.Number.{number_after, number_of_digits}
 use Rattle.location_acl.specs.declared.dotted.Dotted.{Dotted}
 use Rattle.location_acl.specs.declared.dotted.Dotted.TheVariants.{First, Second, Third, Fourth}
 use Rattle.location_acl.specs.declared.groups.Groups.{Groups}
+use Rattle.location_acl.specs.declared.six.Digits.{Digits}
 use Rattle.location_acl.specs.declared.six.Six.{Six}
 use Rattle.location_acl.specs.declared.six.Six.TheVariants.{Start, Colon, Joined, Gap, Group, Tail}
 use Rattle.location_acl.specs.declared.ip.Ip.{Ip}
@@ -18,7 +19,7 @@ use Rattle.location_acl.specs.declared.block.Block.{Block}
 use Rattle.location_acl.specs.declared.block.BlockFault.{BlockFault}
 use Rattle.location_acl.specs.declared.block.BlockFault.TheVariants.{BadAddress, BadLength}
 use Rattle.location_acl.specs.Groups.{has_room, no_groups}
-use Rattle.location_acl.specs.Reading.{begun, dotted_step, dotted_run, dotted_of, six_step, six_run, six_of}
+use Rattle.location_acl.specs.Reading.{number_with, begun, with_digit, dotted_step, dotted_run, dotted_of, six_step, six_run, six_of}
 use Rattle.location_acl.specs.Address.{IsAddress}
 use Rattle.location_acl.specs.Block.{base_of, length_of, most_of, block_from, block_of, IsOfKind, IsLength, AreParts, IsBlock, ReadsBlock}
 use Rattle.location_acl.proofs.PartLemmas.{is_free, parts_are, parts_from}
@@ -50,46 +51,64 @@ some_next : {A B : Type 0} (f : A → Option B) (o : Option A) (y : B) → optio
 some_next f None y is = absurd (cc)
 some_next f (Some x) y is = (x, refl, is)
 
-no_slash_four : (front : Dotted) → dotted_step front 47 ≡ None
-no_slash_four (First None) = refl
-no_slash_four (First (Some a)) = refl
-no_slash_four (Second a None) = refl
-no_slash_four (Second a (Some b)) = refl
-no_slash_four (Third a b None) = refl
-no_slash_four (Third a b (Some c)) = refl
-no_slash_four (Fourth a b c None) = refl
-no_slash_four (Fourth a b c (Some d)) = refl
+-- a byte that stands in no address
+pub record IsOther (c : ℕ) : Type 0 where
+  pub dot : eqb c 46 ≡ false
+  pub colon : eqb c 58 ≡ false
+  pub digit : is_ascii_digit c ≡ false
+  pub hex : is_digit c 16 ≡ false
 
-begun_none : (g : Groups) → begun g 47 ≡ None
-begun_none g = ⊎_elim (λ t. cond-true _ _ _ t) (λ f. cond-false _ _ _ f) (cases_Bool (has_room 1 g))
+number_none : (c : ℕ) → IsOther c → (number : Option ℕ) → number_with number c ≡ None
+number_none c other None = cond-false _ _ _ other.digit
+number_none c other (Some n) = cond-false _ _ _ (and_left _ _ other.digit)
 
-no_slash_six : (front : Six) → six_step front 47 ≡ None
-no_slash_six Start = begun_none no_groups
-no_slash_six Colon = refl
-no_slash_six (Joined g) = begun_none g
-no_slash_six (Gap g) = begun_none g
-no_slash_six (Group g d) = ⊎_elim (λ t. ap (λ (o : Option _). option_map (Group g) o) (cond-true _ _ _ t)) (λ f. ap (λ (o : Option _). option_map (Group g) o) (cond-false _ _ _ f)) (cases_Bool (leb 4 d.count))
-no_slash_six (Tail g d) = ap (λ (o : Option Dotted). option_map (Tail g) o) (no_slash_four d)
+dotted_none : (c : ℕ) → IsOther c → (front : Dotted) → dotted_step front c ≡ None
+dotted_none c other (First number) = cond-false _ _ _ other.dot ∙ ap (λ (o : Option ℕ). option_map (λ n. First (Some n)) o) (number_none c other number)
+dotted_none c other (Second a number) = cond-false _ _ _ other.dot ∙ ap (λ (o : Option ℕ). option_map (λ n. Second a (Some n)) o) (number_none c other number)
+dotted_none c other (Third a b number) = cond-false _ _ _ other.dot ∙ ap (λ (o : Option ℕ). option_map (λ n. Third a b (Some n)) o) (number_none c other number)
+dotted_none c other (Fourth a b d number) = ap (λ (o : Option ℕ). option_map (λ n. Fourth a b d (Some n)) o) (number_none c other number)
 
-other_byte : {A : Type 0} (step : ℕ → Option A) (b : ℕ) (next : A) → step 47 ≡ None → step b ≡ Some next → not (eqb b 47) ≡ true
-other_byte step b next none is =
-    ap not (ne_eqb b 47 (λ same. let e : None ≡ Some next = sym none ∙ ap step (sym same) ∙ is in absurd (cc)))
+begun_none : (c : ℕ) → IsOther c → (g : Groups) → begun g c ≡ None
+begun_none c other g =
+    ⊎_elim (λ t. cond-true _ _ _ t ∙ ap (λ (o : Option ℕ). option_map (Group g) (option_map (λ (digit : ℕ). let made : Digits = record { count = 1; group = digit; number = number_with None c } in made) o)) (cond-false _ _ _ other.hex))
+    (λ f. cond-false _ _ _ f) (cases_Bool (has_room 1 g))
 
-free_four : (front : Dotted) (text : List ℕ) (value : ℕ) → dotted_run front text ≡ Some value → is_free 47 text ≡ true
-free_four front [] value is = refl
-free_four front (b ∷ bs) value is =
+digit_none : (c : ℕ) → IsOther c → (d : Digits) → with_digit d c ≡ None
+digit_none c other d =
+    ⊎_elim (λ t. cond-true _ _ _ t)
+    (λ f. cond-false _ _ _ f ∙ ap (λ (o : Option ℕ). option_map (λ (digit : ℕ). let made : Digits = record { count = d.count + 1; group = d.group * 16 + digit; number = option_and_then (λ n. number_with (Some n) c) d.number } in made) o) (cond-false _ _ _ other.hex))
+    (cases_Bool (leb 4 d.count))
+
+six_none : (c : ℕ) → IsOther c → (front : Six) → six_step front c ≡ None
+six_none c other Start = cond-false _ _ _ other.colon ∙ begun_none c other no_groups
+six_none c other Colon = cond-false _ _ _ other.colon
+six_none c other (Joined g) = cond-false _ _ _ (and_left _ _ other.colon) ∙ begun_none c other g
+six_none c other (Gap g) = begun_none c other g
+six_none c other (Group g d) = cond-false _ _ _ other.colon ∙ cond-false _ _ _ other.dot ∙ ap (λ (o : Option Digits). option_map (Group g) o) (digit_none c other d)
+six_none c other (Tail g d) = ap (λ (o : Option Dotted). option_map (Tail g) o) (dotted_none c other d)
+
+other_byte : {A : Type 0} (step : ℕ → Option A) (c b : ℕ) (next : A) → step c ≡ None → step b ≡ Some next → not (eqb b c) ≡ true
+other_byte step c b next none is =
+    ap not (ne_eqb b c (λ same. let e : None ≡ Some next = sym none ∙ ap step (sym same) ∙ is in absurd (cc)))
+
+free_four : (c : ℕ) → IsOther c → (front : Dotted) (text : List ℕ) (value : ℕ) → dotted_run front text ≡ Some value → is_free c text ≡ true
+free_four c other front [] value is = refl
+free_four c other front (b ∷ bs) value is =
     let h = some_next (λ next. dotted_run next bs) (dotted_step front b) value is in
-    and_from _ _ (other_byte (dotted_step front) b h.0 (no_slash_four front) h.1) (free_four h.0 bs value h.2)
+    and_from _ _ (other_byte (dotted_step front) c b h.0 (dotted_none c other front) h.1) (free_four c other h.0 bs value h.2)
 
-free_six : (front : Six) (text : List ℕ) (value : ℕ) → six_run front text ≡ Some value → is_free 47 text ≡ true
-free_six front [] value is = refl
-free_six front (b ∷ bs) value is =
+free_six : (c : ℕ) → IsOther c → (front : Six) (text : List ℕ) (value : ℕ) → six_run front text ≡ Some value → is_free c text ≡ true
+free_six c other front [] value is = refl
+free_six c other front (b ∷ bs) value is =
     let h = some_next (λ next. six_run next bs) (six_step front b) value is in
-    and_from _ _ (other_byte (six_step front) b h.0 (no_slash_six front) h.1) (free_six h.0 bs value h.2)
+    and_from _ _ (other_byte (six_step front) c b h.0 (six_none c other front) h.1) (free_six c other h.0 bs value h.2)
+
+pub address_free_of : (c : ℕ) → IsOther c → (text : List ℕ) (ip : Ip) → IsAddress text ip → is_free c text ≡ true
+address_free_of c other text (V4 n) h = free_four c other (First None) text n (dotted_is text n h)
+address_free_of c other text (V6 n) h = free_six c other Start text n (six_is text n h)
 
 pub address_is_free : (text : List ℕ) (ip : Ip) → IsAddress text ip → is_free 47 text ≡ true
-address_is_free text (V4 n) h = free_four (First None) text n (dotted_is text n h)
-address_is_free text (V6 n) h = free_six Start text n (six_is text n h)
+address_is_free text ip h = address_free_of 47 (record { dot = refl; colon = refl; digit = refl; hex = refl }) text ip h
 
 -- the reading of a length
 guarded : {A : Type 0} (t : Bool) (o : Option A) (y : A) → cond t o None ≡ Some y → (t ≡ true) × (o ≡ Some y)
@@ -155,11 +174,11 @@ parts_have six text front behind base n cut read long =
     let b = base_from six front base read in
     record { front = front; behind = behind; parts = parts_are 47 text front behind cut; address = b.0; kind = b.1; long = length_from behind n long }
 
-none_some : {A : Type 0} (o : Option A) (x : A) → o ≡ None → o ≡ Some x → ⊥
+pub none_some : {A : Type 0} (o : Option A) (x : A) → o ≡ None → o ≡ Some x → ⊥
 none_some None x none some = absurd (cc)
 none_some (Some y) x none some = absurd (cc)
 
-same_some : {A : Type 0} (o : Option A) (x y : A) → o ≡ Some x → o ≡ Some y → x ≡ y
+pub same_some : {A : Type 0} (o : Option A) (x y : A) → o ≡ Some x → o ≡ Some y → x ≡ y
 same_some None x y one other = absurd (cc)
 same_some (Some z) x y one other = cc
 

@@ -21,7 +21,7 @@ mapped : {A B : Type 0} (f : A → B) (o : Option A) (y : B) → option_map f o 
 mapped f None y is = absurd (cc)
 mapped f (Some x) y is = (x, refl, cc)
 
-asn_from_text : (text : List ℕ) (n : ℕ) → asn_of text ≡ Some n → (n ≤ 4294967295) × (text ≡ codes "as" ++ decimal n)
+pub asn_from_text : (text : List ℕ) (n : ℕ) → asn_of text ≡ Some n → (n ≤ 4294967295) × (text ≡ codes "as" ++ decimal n)
 asn_from_text text n is =
     let g = guarded (bytes_eq (take 2 text) (codes "as")) (asn_from (number_of (drop 2 text))) n is in
     let number = of_number (number_of (drop 2 text)) refl g.1 in
@@ -34,7 +34,7 @@ asn_from_text text n is =
         let same : m ≡ n = (let e = g.1 in cc) in
         (omega (arith, leb-true _ _ g.0, same), some_decimal (drop 2 text) (Some m) (sym read) ∙ ap decimal same)
 
-asn_is : (text : List ℕ) (n : ℕ) → n ≤ 4294967295 → text ≡ codes "as" ++ decimal n → asn_of text ≡ Some n
+pub asn_is : (text : List ℕ) (n : ℕ) → n ≤ 4294967295 → text ≡ codes "as" ++ decimal n → asn_of text ≡ Some n
 asn_is text n fits is =
     ap asn_of is
     ∙ ap asn_from (decimal_some (decimal n) (number_of (decimal n)) refl n (omega arith) refl)
@@ -46,7 +46,7 @@ letter_from b h = let p = and_parts (leb 97 b) (leb b 122) h in (leb-true _ _ p.
 letter_is : (b : ℕ) → IsLowerLetter b → is_lower_letter b ≡ true
 letter_is b h = and_from (leb 97 b) _ (le-leb _ _ h.0) (le-leb _ _ h.1)
 
-country_from_text : (text : List ℕ) (letters : ℕ × ℕ) → country_of text ≡ Some letters → (text ≡ letters.0 ∷ letters.1 ∷ []) × IsLowerLetter letters.0 × IsLowerLetter letters.1
+pub country_from_text : (text : List ℕ) (letters : ℕ × ℕ) → country_of text ≡ Some letters → (text ≡ letters.0 ∷ letters.1 ∷ []) × IsLowerLetter letters.0 × IsLowerLetter letters.1
 country_from_text [] letters is = absurd (cc)
 country_from_text (a ∷ []) letters is = absurd (cc)
 country_from_text (a ∷ b ∷ []) letters is =
@@ -56,7 +56,7 @@ country_from_text (a ∷ b ∷ []) letters is =
     subst (λ (l : ℕ × ℕ). (a ∷ b ∷ [] ≡ l.0 ∷ l.1 ∷ []) × IsLowerLetter l.0 × IsLowerLetter l.1) same (refl, letter_from a p.0, letter_from b p.1)
 country_from_text (a ∷ b ∷ c ∷ more) letters is = absurd (cc)
 
-country_is : (text : List ℕ) (a b : ℕ) → text ≡ a ∷ b ∷ [] → IsLowerLetter a → IsLowerLetter b → country_of text ≡ Some (a, b)
+pub country_is : (text : List ℕ) (a b : ℕ) → text ≡ a ∷ b ∷ [] → IsLowerLetter a → IsLowerLetter b → country_of text ≡ Some (a, b)
 country_is text a b is one other = ap country_of is ∙ cond-true _ _ _ (and_from (is_lower_letter a) _ (letter_is a one) (letter_is b other))
 
 kind_is : (kind word : List ℕ) → kind ≡ word → bytes_eq kind word ≡ true

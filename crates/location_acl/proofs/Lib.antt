@@ -8,3 +8,5 @@ pub mod AddressLemmas
 pub mod BlockLemmas
 pub mod BlockPlaces
 pub mod FootprintLemmas
+pub mod TableLemmas
+pub mod LineLemmas

@@ -1,5 +1,5 @@
 -- Reading an IPv6 address against its grammar: what is written so is read.
-use Rattle.std.proofs.Common.{◌≡◌, ℕ, ◌+◌, ◌-◌, ◌*◌, ◌/◌, ◌%◌, ◌<◌, ◌≤◌, suc, leb, eqb, true, false, cond, not, List, [], ◌∷◌, ◌++◌, length, replicate, Option, Some, None, refl, ap, sym, subst, ◌∙◌, arith, append_assoc, append-nil, inl, inr, lit<, lit≤, decimal}
+use Rattle.std.proofs.Common.{◌^◌, ◌≡◌, ℕ, ◌+◌, ◌-◌, ◌*◌, ◌/◌, ◌%◌, ◌<◌, ◌≤◌, suc, leb, eqb, true, false, cond, not, List, [], ◌∷◌, ◌++◌, length, replicate, Option, Some, None, refl, ap, sym, subst, ◌∙◌, arith, append_assoc, append-nil, inl, inr, lit<, lit≤, decimal}
 use Rattle.std.specs.Prelude.{option_map, option_and_then}
 use Rattle.std.specs.Char.{digit_value, is_digit}
 use Rattle.std.specs.List.{list_all}
@@ -122,15 +122,15 @@ small_digit n small =
     let value : digit_value (48 + n) ≡ 48 + n - 48 = cond-false _ _ _ (le-ltb (48 + n) 48 (omega arith)) ∙ cond-true _ _ _ (lt-ltb (48 + n) 58 (omega arith)) in
     lt-ltb _ _ (omega (arith, value))
 
-decimal_digits : (n : ℕ) → n < 256 → list_all (λ byte. is_digit byte 16) (decimal n) ≡ true
+pub decimal_digits : (n : ℕ) → n < 2 ^ 64 → list_all (λ byte. is_digit byte 16) (decimal n) ≡ true
 decimal_digits n small =
     decimal_by_steps (λ (k : ℕ) (ds : List ℕ). list_all (λ byte. is_digit byte 16) ds ≡ true)
     (λ k one. and_from _ _ (small_digit k one) refl)
-    (λ k ds ten before. list_all-append _ ds ((48 + k % 10) ∷ []) ∙ and_from _ _ before (and_from _ _ (small_digit (k % 10) (omega arith)) refl)) n (omega arith)
+    (λ k ds ten before. list_all-append _ ds ((48 + k % 10) ∷ []) ∙ and_from _ _ before (and_from _ _ (small_digit (k % 10) (omega arith)) refl)) n small
 
 decimal_group : (n : ℕ) → n < 256 → IsGroup (decimal n) (digits_value 16 (decimal n))
 decimal_group n small =
-    record { some = decimal_nonempty n (omega arith); few = omega (arith, length-decimal-le 3 n (lit< tt) (omega arith) (omega arith)); digits = decimal_digits n small; valued = refl }
+    record { some = decimal_nonempty n (omega arith); few = omega (arith, length-decimal-le 3 n (lit< tt) (omega arith) (omega arith)); digits = decimal_digits n (omega arith); valued = refl }
 
 octet_from : Option ℕ → List ℕ → Option ℕ
 octet_from None bs = octet_of bs

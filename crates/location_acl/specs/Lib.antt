@@ -5,3 +5,5 @@ pub mod Reading
 pub mod Block
 pub mod Footprint
 pub mod Acl
+pub mod Line
+pub mod Table

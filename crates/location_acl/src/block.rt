@@ -1,6 +1,6 @@
 //! Blocks of addresses.
 
-ghost use Rattle.std.specs.Prelude.{◌≡◌, ◌≤◌, IfErr, IsSome};
+ghost use Rattle.std.specs.Prelude.{◌≡◌, ◌-◌, ◌/◌, ◌^◌, ◌≤◌, IfErr, IsSome};
 ghost use Rattle.std.specs.Result.{result_ok};
 ghost use Rattle.location_acl.specs.Place.{IsPlace};
 ghost use Rattle.location_acl.specs.Block.{has_same_front, base_of, length_of, length_with, most_of, IsFitting};
@@ -70,13 +70,21 @@ impl Block {
 
 // whether two numbers of so many bits have the same first bits
 fn has_same_front(base: u128, number: u128, width: u8, length: u8) -> bool
-    requires wide { width ≤ 128 }
+    requires { width ≤ 128 }
     ensures { result ≡ has_same_front width length base number }
 {
+    front_bits(base, width, length) == front_bits(number, width, length)
+}
+
+/// The first bits of a number of `width` bits, at most 128.
+pub fn front_bits(number: u128, width: u8, length: u8) -> u128
+    requires { width ≤ 128 }
+    ensures { result ≡ number / 2 ^ (width - length) }
+{
     let past = u32::from(width.saturating_sub(length));
-    match (base.checked_shr(past), number.checked_shr(past)) {
-        (Some(front), Some(other)) => front == other,
-        _ => true,
+    match number.checked_shr(past) {
+        Some(front) => front,
+        None => 0,
     }
 }
 

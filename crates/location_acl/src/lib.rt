@@ -9,9 +9,16 @@ mod footprint;
 mod groups;
 mod ip;
 pub mod laws;
+mod line;
+pub mod plain;
 mod six;
+mod table;
+#[cfg(test)]
+mod tests;
 
 pub use acl::{FootprintList, LocationAcl, LocationRule, LocationRuleList};
 pub use block::{Block, BlockFault};
 pub use footprint::{Footprint, Place, asn_of, country_of};
 pub use ip::{AddressFault, Ip};
+pub use line::PlaceLine;
+pub use table::{PlaceFault, PlaceTable};

@@ -1,0 +1,231 @@
+-- Reading a line of a place file against its grammar.
+use Rattle.std.proofs.Common.{zero, suc, ◌≡◌, ℕ, ◌+◌, ◌<◌, ◌≤◌, eqb, Bool, true, false, not, List, [], ◌∷◌, ◌++◌, length, length-append, append_assoc, append-nil, Option, Some, None, refl, ap, sym, subst, ◌∙◌, arith, ⊎_elim, decimal, lit<}
+use Rattle.std.specs.Prelude.{codes, bytes_eq, option_map, ◌==◌}
+use Rattle.std.specs.Option.{option_or}
+use Rattle.std.specs.Char.{is_ascii_digit, is_digit}
+use Rattle.std.specs.List.{list_all}
+use Rattle.std.specs.Str.{all_ascii_digits}
+use Rattle.std.proofs.lemmas.Bool.{cases_Bool, and_parts, and_from, cond-true, cond-false, ne_eqb}
+use Rattle.std.proofs.lemmas.List.Folds.{list_all-append}
+use Rattle.std.proofs.lemmas.Slice.Eq.{bytes_eq-Decides}
+use Rattle.listing.specs.Word.{parts_at, ◌>>=◌}
+use Rattle.location_acl.specs.declared.ip.Ip.{Ip}
+use Rattle.location_acl.specs.declared.ip.Ip.TheVariants.{V4, V6}
+use Rattle.location_acl.specs.declared.block.Block.{Block}
+use Rattle.location_acl.specs.declared.line.PlaceLine.{PlaceLine}
+use Rattle.location_acl.specs.Block.{block_of, most_of, IsOfKind, IsBlock}
+use Rattle.location_acl.specs.Footprint.{asn_of, country_of}
+use Rattle.location_acl.specs.Line.{IsKnownAsn, IsKnownCountry, IsLine, AreLines, StopsAt, either_block, known_asn, known_country, line_of}
+use Rattle.location_acl.specs.Table.{FitsKind, width_of, first_line}
+use Rattle.location_acl.proofs.PartLemmas.{is_free, parts_are, parts_from}
+use Rattle.location_acl.proofs.WrittenLemmas.{decimal_digits}
+use Rattle.location_acl.proofs.BlockLemmas.{IsOther, address_free_of, block_from_text, block_is, parts_is, same_some, none_some}
+use Rattle.location_acl.specs.Address.{IsAddress}
+use Rattle.location_acl.proofs.AddressLemmas.{one_address}
+use Rattle.location_acl.proofs.FootprintLemmas.{asn_from_text, asn_is, country_from_text, country_is}
+
+-- a space and a line feed stand in no block, number or country
+pub record IsBlank (c : ℕ) : Type 0 where
+  pub other : IsOther c
+  pub slash : eqb 47 c ≡ false
+  pub dash : eqb 45 c ≡ false
+  pub a : eqb 97 c ≡ false
+  pub s : eqb 115 c ≡ false
+  pub small : c < 48
+
+free_append : (c : ℕ) (xs ys : List ℕ) → is_free c xs ≡ true → is_free c ys ≡ true → is_free c (xs ++ ys) ≡ true
+free_append c xs ys one other = list_all-append (λ (x : ℕ). not (x == c)) xs ys ∙ and_from _ _ one other
+
+hex_free : (c : ℕ) → IsOther c → (xs : List ℕ) → list_all (λ byte. is_digit byte 16) xs ≡ true → is_free c xs ≡ true
+hex_free c other [] digits = refl
+hex_free c other (x ∷ xs) digits =
+    let parts = and_parts (is_digit x 16) (list_all (λ byte. is_digit byte 16) xs) digits in
+    and_from (not (x == c)) _ (ap not (ne_eqb x c (λ same. let e : true ≡ false = sym parts.0 ∙ ap (λ (k : ℕ). is_digit k 16) same ∙ other.hex in absurd (cc)))) (hex_free c other xs parts.1)
+
+digits_free : (c : ℕ) → IsOther c → (xs : List ℕ) → all_ascii_digits xs ≡ true → is_free c xs ≡ true
+digits_free c other [] digits = refl
+digits_free c other (x ∷ xs) digits =
+    let parts = and_parts (is_ascii_digit x) (all_ascii_digits xs) digits in
+    and_from (not (x == c)) _ (ap not (ne_eqb x c (λ same. let e : true ≡ false = sym parts.0 ∙ ap is_ascii_digit same ∙ other.digit in absurd (cc)))) (digits_free c other xs parts.1)
+
+block_free : (c : ℕ) → IsBlank c → (six : Bool) (text : List ℕ) (block : Block) → IsBlock six text block → is_free c text ≡ true
+block_free c blank six text block h =
+    ap (is_free c) h.0.parts ∙ free_append c h.0.front (47 ∷ h.0.behind) (address_free_of c blank.other h.0.front block.base h.0.address) (and_from (not (eqb 47 c)) _ (ap not blank.slash) (digits_free c blank.other h.0.behind h.0.long.digits))
+
+asn_free : (c : ℕ) → IsBlank c → (text : List ℕ) (asn : Option ℕ) → IsKnownAsn text asn → is_free c text ≡ true
+asn_free c blank text None h = ap (is_free c) h ∙ and_from (not (eqb 45 c)) true (ap not blank.dash) refl
+asn_free c blank text (Some n) h =
+    ap (is_free c) h.1 ∙ and_from (not (eqb 97 c)) _ (ap not blank.a) (and_from (not (eqb 115 c)) _ (ap not blank.s) (hex_free c blank.other (decimal n) (decimal_digits n (omega (arith, h.0)))))
+
+country_free : (c : ℕ) → IsBlank c → (text : List ℕ) (country : Option (ℕ × ℕ)) → IsKnownCountry text country → is_free c text ≡ true
+country_free c blank text None h = ap (is_free c) h ∙ and_from (not (eqb 45 c)) true (ap not blank.dash) refl
+country_free c blank text (Some l) h =
+    let small = blank.small in
+    ap (is_free c) h.0 ∙ and_from (not (l.0 == c)) _ (ap not (ne_eqb l.0 c (λ same. omega (arith, same, h.1.0)))) (and_from (not (l.1 == c)) true (ap not (ne_eqb l.1 c (λ same. omega (arith, same, h.2.0)))) refl)
+
+space : IsBlank 32
+space = record { other = record { dot = refl; colon = refl; digit = refl; hex = refl }; slash = refl; dash = refl; a = refl; s = refl; small = lit< tt }
+
+feed : IsBlank 10
+feed = record { other = record { dot = refl; colon = refl; digit = refl; hex = refl }; slash = refl; dash = refl; a = refl; s = refl; small = lit< tt }
+
+line_free : (text : List ℕ) (line : PlaceLine) → IsLine text line → is_free 10 text ≡ true
+line_free text line h =
+    ap (is_free 10) h.parts ∙ free_append 10 h.block (32 ∷ (h.asn ++ 32 ∷ h.country)) (block_free 10 feed h.six h.block line.block h.is_block)
+    (free_append 10 h.asn (32 ∷ h.country) (asn_free 10 feed h.asn line.asn h.is_asn) (country_free 10 feed h.country line.country h.is_country))
+
+-- the parts of a line
+either_from : (text : List ℕ) (block : Block) → either_block text ≡ Some block → (six : Bool) × IsBlock six text block
+either_from text block is = of_kinds (block_of false text) (block_of true text) refl refl is
+  where
+    of_kinds : (four six : Option Block) → block_of false text ≡ four → block_of true text ≡ six → option_or four six ≡ Some block → (six : Bool) × IsBlock six text block
+    of_kinds (Some b) six four_is six_is is = (false, block_from_text false text block (four_is ∙ is))
+    of_kinds None six four_is six_is is = (true, block_from_text true text block (six_is ∙ is))
+
+no_four : (text : List ℕ) (block : Block) → IsBlock true text block → block_of false text ≡ None
+no_four text block h = of_four (block_of false text) refl
+  where
+    of_four : (four : Option Block) → block_of false text ≡ four → four ≡ None
+    of_four None is = refl
+    of_four (Some b) is =
+        let k = block_from_text false text b is in
+        let pair = same_some (parts_at 47 text) (h.0.front, h.0.behind) (k.0.front, k.0.behind) (parts_is true text block.base block.length h.0).0 (parts_is false text b.base b.length k.0).0 in
+        let front : h.0.front ≡ k.0.front = ap (λ (p : List ℕ × List ℕ). p.0) pair in
+        let same = one_address k.0.front block.base b.base (subst (λ (xs : List ℕ). IsAddress xs block.base) front h.0.address) k.0.address in
+        absurd (kinds block.base b.base same h.0.kind k.0.kind)
+      where
+        kinds : (one other : Ip) → one ≡ other → IsOfKind true one → IsOfKind false other → ⊥
+        kinds (V4 n) other same six four = six
+        kinds (V6 n) (V6 m) same six four = four
+        kinds (V6 n) (V4 m) same six four = absurd (cc)
+
+either_is : (six : Bool) (text : List ℕ) (block : Block) → IsBlock six text block → either_block text ≡ Some block
+either_is false text block h = ap (λ (o : Option Block). option_or o (block_of true text)) (block_is false text block h)
+either_is true text block h = ap (λ (o : Option Block). option_or o (block_of true text)) (no_four text block h) ∙ block_is true text block h
+
+known_asn_from : (text : List ℕ) (asn : Option ℕ) → known_asn text ≡ Some asn → IsKnownAsn text asn
+known_asn_from text asn is =
+    ⊎_elim (λ t. let same : None ≡ asn = (let e : Some None ≡ Some asn = sym (cond-true _ _ _ t) ∙ is in cc) in subst (λ (o : Option ℕ). IsKnownAsn text o) same ((bytes_eq-Decides text (codes "-")).0 t))
+    (λ f. number (asn_of text) refl (sym (cond-false _ _ _ f) ∙ is)) (cases_Bool (bytes_eq text (codes "-")))
+  where
+    number : (o : Option ℕ) → asn_of text ≡ o → option_map Some o ≡ Some asn → IsKnownAsn text asn
+    number None read is = absurd (cc)
+    number (Some n) read is = let same : Some n ≡ asn = cc in subst (λ (o : Option ℕ). IsKnownAsn text o) same (asn_from_text text n read)
+
+known_asn_is : (text : List ℕ) (asn : Option ℕ) → IsKnownAsn text asn → known_asn text ≡ Some asn
+known_asn_is text None h = ap known_asn h
+known_asn_is text (Some n) h =
+    cond-false (bytes_eq text (codes "-")) _ _ (ap (λ (xs : List ℕ). bytes_eq xs (codes "-")) h.1) ∙ ap (λ (o : Option ℕ). option_map Some o) (asn_is text n h.0 h.1)
+
+known_country_from : (text : List ℕ) (country : Option (ℕ × ℕ)) → known_country text ≡ Some country → IsKnownCountry text country
+known_country_from text country is =
+    ⊎_elim (λ t. let same : None ≡ country = (let e : Some None ≡ Some country = sym (cond-true _ _ _ t) ∙ is in cc) in subst (λ (o : Option (ℕ × ℕ)). IsKnownCountry text o) same ((bytes_eq-Decides text (codes "-")).0 t))
+    (λ f. letters (country_of text) refl (sym (cond-false _ _ _ f) ∙ is)) (cases_Bool (bytes_eq text (codes "-")))
+  where
+    letters : (o : Option (ℕ × ℕ)) → country_of text ≡ o → option_map Some o ≡ Some country → IsKnownCountry text country
+    letters None read is = absurd (cc)
+    letters (Some l) read is = let same : Some l ≡ country = cc in subst (λ (o : Option (ℕ × ℕ)). IsKnownCountry text o) same (country_from_text text l read)
+
+known_country_is : (text : List ℕ) (country : Option (ℕ × ℕ)) → IsKnownCountry text country → known_country text ≡ Some country
+known_country_is text None h = ap known_country h
+known_country_is text (Some l) h =
+    cond-false (bytes_eq text (codes "-")) _ _ (ap (λ (xs : List ℕ). bytes_eq xs (codes "-")) h.0 ∙ not_dash l) ∙ ap (λ (o : Option (ℕ × ℕ)). option_map Some o) (country_is text l.0 l.1 h.0 h.1 h.2)
+  where
+    not_dash : (l : ℕ × ℕ) → bytes_eq (l.0 ∷ l.1 ∷ []) (codes "-") ≡ false
+    not_dash l = ⊎_elim (λ t. absurd (omega (arith, ap length ((bytes_eq-Decides (l.0 ∷ l.1 ∷ []) (codes "-")).0 t)))) (λ f. f) (cases_Bool (bytes_eq (l.0 ∷ l.1 ∷ []) (codes "-")))
+
+bound : {A B : Type 0} (o : Option A) (next : A → Option B) (y : B) → (o >>= next) ≡ Some y → (x : A) × (o ≡ Some x) × (next x ≡ Some y)
+bound None next y is = absurd (cc)
+bound (Some x) next y is = (x, refl, is)
+
+pub line_from_text : (text : List ℕ) (line : PlaceLine) → line_of text ≡ Some line → IsLine text line
+line_from_text text line is =
+    let first = bound (parts_at 32 text) _ line is in
+    let second = bound (parts_at 32 first.0.1) _ line first.2 in
+    let block = bound (either_block first.0.0) _ line second.2 in
+    let asn = bound (known_asn second.0.0) _ line block.2 in
+    let country = bound (known_country second.0.1) _ line asn.2 in
+    let made : PlaceLine = record { block = block.0; asn = asn.0; country = country.0 } in
+    let same : made ≡ line = (let e = country.2 in cc) in
+    let kind = either_from first.0.0 block.0 block.1 in
+    subst (λ (l : PlaceLine). IsLine text l) same (record {
+      block = first.0.0;
+      asn = second.0.0;
+      country = second.0.1;
+      parts = parts_are 32 text first.0.0 first.0.1 first.1 ∙ ap (λ (xs : List ℕ). first.0.0 ++ 32 ∷ xs) (parts_are 32 first.0.1 second.0.0 second.0.1 second.1);
+      six = kind.0;
+      is_block = kind.1;
+      is_asn = known_asn_from second.0.0 asn.0 asn.1;
+      is_country = known_country_from second.0.1 country.0 country.1;
+    })
+
+pub line_is : (text : List ℕ) (line : PlaceLine) → IsLine text line → line_of text ≡ Some line
+line_is text line h =
+    let rest : List ℕ = h.asn ++ 32 ∷ h.country in
+    let one = parts_from 32 text h.block rest h.parts (block_free 32 space h.six h.block line.block h.is_block) in
+    let two = parts_from 32 rest h.asn h.country refl (asn_free 32 space h.asn line.asn h.is_asn) in
+    ap (λ (o : Option (List ℕ × List ℕ)). o >>= λ first. parts_at 32 first.1 >>= λ second. either_block first.0 >>= λ block. known_asn second.0 >>= λ asn. known_country second.1 >>= λ country. Some (let made : PlaceLine = record { block = block; asn = asn; country = country } in made)) one
+    ∙ ap (λ (o : Option (List ℕ × List ℕ)). o >>= λ second. either_block h.block >>= λ block. known_asn second.0 >>= λ asn. known_country second.1 >>= λ country. Some (let made : PlaceLine = record { block = block; asn = asn; country = country } in made)) two
+    ∙ ap (λ (o : Option Block). o >>= λ block. known_asn h.asn >>= λ asn. known_country h.country >>= λ country. Some (let made : PlaceLine = record { block = block; asn = asn; country = country } in made)) (either_is h.six h.block line.block h.is_block)
+    ∙ ap (λ (o : Option (Option ℕ)). o >>= λ asn. known_country h.country >>= λ country. Some (let made : PlaceLine = record { block = line.block; asn = asn; country = country } in made)) (known_asn_is h.asn line.asn h.is_asn)
+    ∙ ap (λ (o : Option (Option (ℕ × ℕ))). o >>= λ country. Some (let made : PlaceLine = record { block = line.block; asn = line.asn; country = country } in made)) (known_country_is h.country line.country h.is_country)
+
+pub line_fits : (text : List ℕ) (line : PlaceLine) → line_of text ≡ Some line → FitsKind line.block
+line_fits text line is =
+    let h = line_from_text text line is in of_kind h.six line.block.base line.block.length h.is_block.0.kind h.is_block.1
+  where
+    of_kind : (six : Bool) (base : Ip) (n : ℕ) → IsOfKind six base → n ≤ most_of six → n ≤ width_of base
+    of_kind true (V6 number) n kind most = most
+    of_kind false (V4 number) n kind most = most
+    of_kind true (V4 number) n kind most = absurd kind
+    of_kind false (V6 number) n kind most = absurd kind
+
+-- the first line of a text
+pub first_from_text : (bytes : List ℕ) (line : PlaceLine) (after : List ℕ) → first_line bytes ≡ Some (line, after) → (text : List ℕ) × (bytes ≡ text ++ 10 ∷ after) × IsLine text line
+first_from_text bytes line after is =
+    let parts = bound (parts_at 10 bytes) _ (line, after) is in
+    of_line parts.0.0 parts.0.1 parts.1 (line_of parts.0.0) refl parts.2
+  where
+    of_line : (text rest : List ℕ) → parts_at 10 bytes ≡ Some (text, rest) → (o : Option PlaceLine) → line_of text ≡ o → option_map {U = PlaceLine × List ℕ} (λ (l : PlaceLine). (l, rest)) o ≡ Some (line, after) → (text : List ℕ) × (bytes ≡ text ++ 10 ∷ after) × IsLine text line
+    of_line text rest cut None read is = absurd (cc)
+    of_line text rest cut (Some found) read is =
+        let pair : (found, rest) ≡ (line, after) = cc in
+        let same : found ≡ line = ap (λ (p : PlaceLine × List ℕ). p.0) pair in
+        let behind : rest ≡ after = ap (λ (p : PlaceLine × List ℕ). p.1) pair in
+        (text, parts_are 10 bytes text rest cut ∙ ap (λ (xs : List ℕ). text ++ 10 ∷ xs) behind, subst (λ (l : PlaceLine). IsLine text l) same (line_from_text text found read))
+
+pub no_first : (bytes : List ℕ) → first_line bytes ≡ None → (text after : List ℕ) (line : PlaceLine) → bytes ≡ text ++ 10 ∷ after → IsLine text line → ⊥
+no_first bytes none text after line is h =
+    let some : first_line bytes ≡ Some (line, after) =
+    ap (λ (o : Option (List ℕ × List ℕ)). o >>= λ parts. option_map {U = PlaceLine × List ℕ} (λ (l : PlaceLine). (l, parts.1)) (line_of parts.0)) (parts_from 10 bytes text after is (line_free text line h))
+    ∙ ap (λ (o : Option PlaceLine). option_map {U = PlaceLine × List ℕ} (λ (l : PlaceLine). (l, after)) o) (line_is text line h) in
+    none_some (first_line bytes) (line, after) none some
+
+pub first_shorter : (bytes text after : List ℕ) → bytes ≡ text ++ 10 ∷ after → length after < length bytes
+first_shorter bytes text after is = omega (arith, ap length is, length-append text (10 ∷ after))
+
+-- the lines that were read stand before the rest
+abbrev pub ReadSoFar : List ℕ → List ℕ → List PlaceLine → Type 0
+ReadSoFar bytes rest lines = (front : List ℕ) × (bytes ≡ front ++ rest) × AreLines front lines
+
+are_push : (front : List ℕ) (lines : List PlaceLine) (text : List ℕ) (line : PlaceLine) → AreLines front lines → IsLine text line → AreLines (front ++ (text ++ 10 ∷ [])) (lines ++ line ∷ [])
+are_push front [] text line are is = (text, [], ap (λ (xs : List ℕ). xs ++ (text ++ 10 ∷ [])) are, is, refl)
+are_push front (l ∷ lines) text line are is =
+    (are.0, are.1 ++ (text ++ 10 ∷ []), ap (λ (xs : List ℕ). xs ++ (text ++ 10 ∷ [])) are.2 ∙ append_assoc are.0 (10 ∷ are.1) (text ++ 10 ∷ []), are.3, are_push are.1 lines text line are.4 is)
+
+pub read_more : (bytes rest : List ℕ) (lines : List PlaceLine) (line : PlaceLine) (after : List ℕ) → ReadSoFar bytes rest lines → first_line rest ≡ Some (line, after) → ReadSoFar bytes after (lines ++ line ∷ [])
+read_more bytes rest lines line after read is =
+    let first = first_from_text rest line after is in
+    (read.0 ++ (first.0 ++ 10 ∷ []), read.1 ∙ ap (λ (xs : List ℕ). read.0 ++ xs) (first.1 ∙ sym (append_assoc first.0 (10 ∷ []) after)) ∙ sym (append_assoc read.0 (first.0 ++ 10 ∷ []) after), are_push read.0 lines first.0 line read.2 first.2)
+
+pub read_all : (bytes rest : List ℕ) (lines : List PlaceLine) → ReadSoFar bytes rest lines → length rest ≡ 0 → AreLines bytes lines
+read_all bytes [] lines read none = subst (λ (xs : List ℕ). AreLines xs lines) (sym (read.1 ∙ append-nil read.0)) read.2
+read_all bytes (x ∷ rest) lines read none = absurd (omega arith)
+
+pub read_stops : (bytes rest : List ℕ) (lines : List PlaceLine) (number : ℕ) → ReadSoFar bytes rest lines → first_line rest ≡ None → 0 < length rest → number ≡ length lines + 1 → StopsAt bytes number
+read_stops bytes rest lines number read none more numbered =
+    record { lines = lines; front = read.0; rest = rest; parts = read.1; before = read.2; numbered = numbered; more = more; none = no_first rest none }
+
+pub some_bytes : (n : ℕ) (empty : Bool) → empty ≡ (n == 0) → empty ≡ false → 0 < n
+some_bytes zero empty is some = let e : true ≡ false = sym is ∙ some in absurd (cc)
+some_bytes (suc n) empty is some = omega arith

@@ -1,12 +1,14 @@
 -- Pieces of a query: how they are cut off, kept and joined.
-use Rattle.std.proofs.Common.{◌≡◌, ℕ, ◌+◌, ◌<◌, ◌≤◌, Bool, true, false, not, cond, List, [], ◌∷◌, ◌++◌, length, take, drop, refl, ap, sym, subst, ◌∙◌, arith, Option, Some, None, ltb, ◌==◌, append_assoc, length-drop, ⊎_elim, ◌↔◌, IsTrue, is_some}
-use Rattle.std.proofs.lemmas.Bool.{cases_Bool, cond-true, cond-false, ltb-true, ltb-false, not_from_true, not_from_false}
-use Rattle.std.proofs.lemmas.List.Elements.{All-cons, All-nil}
+use Rattle.std.proofs.Common.{◌≡◌, ℕ, ◌+◌, ◌<◌, ◌≤◌, Bool, true, false, not, cond, List, [], ◌∷◌, ◌++◌, length, take, drop, refl, ap, sym, subst, ◌∙◌, arith, Option, Some, None, ltb, ◌==◌, append-nil, append_assoc, length-drop, ⊎_elim, ◌↔◌, IsTrue, is_some}
+use Rattle.std.proofs.lemmas.Bool.{cases_Bool, cond-true, cond-false, ltb-true, ltb-false, not_from_true, not_from_false, and_parts, not-true}
+use Rattle.std.proofs.lemmas.List.Elements.{All-cons, All-nil, filter-append}
 use Rattle.std.proofs.lemmas.List.Splits.{slice_split_first, slice_split-cons_yes, slice_split-cons_no, slice_split_at, length-slice_split, slice_split_none, join_with_byte-slice_split}
-use Rattle.std.specs.List.{slice_split, onto_first, position_or_len, join_with_byte, filter, All}
+use Rattle.std.specs.List.{slice_split, onto_first, position_or_len, join_with_byte, filter, All, list_all}
 use Rattle.std.specs.Option.{option_map}
 use Rattle.listing.specs.Word.{parts_at}
-use Rattle.cdni_base.specs.Key.{pieces_of, joined}
+use Rattle.cdni_base.specs.declared.key.Ignored.TheVariants as ignored
+use Rattle.cdni_base.specs.declared.target.Target.{Target}
+use Rattle.cdni_base.specs.Key.{pieces_of, joined, is_kept, key_of, AreIgnored}
 
 abbrev is_cut : ℕ → Bool
 is_cut byte = byte == 38
@@ -160,3 +162,19 @@ joined_is kept query own =
 
 pub chain_iff : {P Q R : Type 0} → (P ↔ Q) → (R ↔ Q) → P ↔ R
 chain_iff h k = (λ p. k.1 (h.0 p), λ r. h.1 (k.0 r))
+
+-- what is ignored leaves nothing
+ignored_gone : (names pieces : List (List ℕ)) → AreIgnored names pieces → filter (is_kept names) pieces ≡ []
+ignored_gone names [] are = refl
+ignored_gone names (piece ∷ pieces) are =
+    let p = and_parts (not (is_kept names piece)) (list_all (λ x. not (is_kept names x)) pieces) are in
+    cond-false (is_kept names piece) (piece ∷ filter (is_kept names) pieces) (filter (is_kept names) pieces) (not-true (is_kept names piece) p.0) ∙ ignored_gone names pieces p.1
+
+ignored_between : (names front some back : List (List ℕ)) → AreIgnored names some → filter (is_kept names) (front ++ some ++ back) ≡ filter (is_kept names) front ++ filter (is_kept names) back
+ignored_between names front some back are =
+    filter-append (is_kept names) (front ++ some) back ∙ ap (λ (xs : List (List ℕ)). xs ++ filter (is_kept names) back) (filter-append (is_kept names) front some ∙ ap (λ (xs : List (List ℕ)). filter (is_kept names) front ++ xs) (ignored_gone names some are) ∙ append-nil (filter (is_kept names) front))
+
+pub same_key : (target : Target) (query : Option (List ℕ)) (names front some others back : List (List ℕ)) → pieces_of target.query ≡ front ++ some ++ back → pieces_of query ≡ front ++ others ++ back → AreIgnored names some → AreIgnored names others → key_of (record target { query = query }) (ignored.Names names) ≡ key_of target (ignored.Names names)
+same_key target query names front some others back one other are also =
+    let kept : filter (is_kept names) (pieces_of query) ≡ filter (is_kept names) (pieces_of target.query) = ap (filter (is_kept names)) other ∙ ignored_between names front others back also ∙ sym (ap (filter (is_kept names)) one ∙ ignored_between names front some back are) in
+    ap (λ (q : Option (List ℕ)). record { host = target.host; port = target.port; path = target.path; query = q; ignored = ignored.Names names }) (ap joined kept)

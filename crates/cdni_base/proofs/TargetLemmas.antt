@@ -165,7 +165,7 @@ scheme_read text protocol e =
     (λ none. absurd (none_some protocol (sym (cond-false (begins_with (codes "https://") text) (Some Https) None none) ∙ sym (other_scheme text other) ∙ e))) (cases_Bool (begins_with (codes "https://") text))) (cases_Bool (begins_with (codes "http://") text))
 
 -- an endpoint has no `/` and no `?`
-all_imply : (p q : ℕ → Bool) → ((byte : ℕ) → p byte ≡ true → q byte ≡ true) → (text : List ℕ) → list_all p text ≡ true → list_all q text ≡ true
+pub all_imply : (p q : ℕ → Bool) → ((byte : ℕ) → p byte ≡ true → q byte ≡ true) → (text : List ℕ) → list_all p text ≡ true → list_all q text ≡ true
 all_imply p q one [] h = refl
 all_imply p q one (byte ∷ bytes) h = let r = and_parts (p byte) (list_all p bytes) h in and_from (q byte) (list_all q bytes) (one byte r.0) (all_imply p q one bytes r.1)
 

@@ -1,6 +1,6 @@
 -- Cache keys: what of a target tells one kept object from another.
-use Rattle.std.specs.Prelude.{ℕ, Bool, true, false, not, List, [], ◌∷◌, filter, None, Some, bytes_eq, ◌==◌}
-use Rattle.std.specs.List.{slice_split, before_first, join_with_byte, list_any}
+use Rattle.std.specs.Prelude.{ℕ, Bool, true, false, not, List, [], ◌∷◌, filter, None, Some, bytes_eq, ◌==◌, IsTrue}
+use Rattle.std.specs.List.{slice_split, before_first, join_with_byte, list_any, list_all}
 use Rattle.std.specs.Str.{str_to_ascii_lowercase}
 use Rattle.std.specs.declared.option.Option.{Option}
 use Rattle.cdni_base.specs.declared.endpoint.HostName.{HostName}
@@ -49,3 +49,7 @@ key_of target ignored = record { host = target.host; port = target.port; path = 
 abbrev pub key_text : Bool → Bool → KeyParts → List ℕ
 key_text secure true key = url_of secure key.host key.port key.path key.query
 key_text secure false key = url_of secure key.host key.port key.path None
+
+-- the name of each of these pieces is one of the names
+abbrev pub AreIgnored : List (List ℕ) → List (List ℕ) → Type 0
+AreIgnored names pieces = IsTrue (list_all (λ piece. not (is_kept names piece)) pieces)

@@ -127,7 +127,7 @@ fn begins_with_bracket(text: &[u8]) -> bool
 }
 
 // how many bytes of a name stand at the front
-fn name_length(text: &[u8]) -> usize
+pub(crate) fn name_length(text: &[u8]) -> usize
     ensures length { result ≡ prefix_len is_name_byte text.now }
     ensures within { result ≤ length text.now }
 {

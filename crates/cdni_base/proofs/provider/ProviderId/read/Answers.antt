@@ -1,0 +1,5 @@
+use Rattle.cdni_base.proofs.ProviderLemmas.{provider_answers}
+use Rattle.cdni_base.proofs.provider.ProviderId.read.Goals as goal
+
+pub returns-clause-grammar : goal.returns-clause-grammar
+returns-clause-grammar c = provider_answers _ _ c.read_provider.ensures

@@ -5,6 +5,7 @@ use Rattle.std.specs.declared.alloc.Global.{Global}
 use Rattle.std.specs.Io.KnownBytes.{Appends, IsAtEnd}
 use Rattle.edge_base.specs.declared.status.Status.{Status}
 use Rattle.edge_base.specs.declared.status.Status.TheVariants as status
+use Rattle.http_node.specs.Note.{note_of}
 use Rattle.http_node.specs.Script.{answers}
 use Rattle.http_node.specs.declared.replaying.ReplayEnd.{ReplayEnd}
 use Rattle.http_node.specs.declared.replaying.ReplayEnd.TheVariants as replay_end
@@ -35,11 +36,19 @@ EndsAt script left old new replay_end.Memory = AppendsFront old new (answers scr
 abbrev pub Ends : Option (List ℕ) → Option (List ℕ) → Option (List ℕ) → Option (List ℕ) → ReplayEnd → Type 0
 Ends before after old new result = (script : List ℕ) × IsTold before script × EndsAt script after old new result
 
+-- the status of the end of a replay
+abbrev pub status_of : ReplayEnd → Status
+status_of replay_end.Done = status.Done
+status_of (replay_end.NotALine line at) = status.Script
+status_of replay_end.ReadFault = status.ReadFault
+status_of replay_end.WriteFault = status.WriteFault
+status_of replay_end.Memory = status.Memory
+
 abbrev pub Stops : Option (ℕ × ℕ) → Type 0
 Stops None = ⊥
 Stops (Some place) = Unit {0}
 
--- the same of the status of the whole command
+-- what the status of the whole command says of the script, of what is left of it, and of the output
 abbrev pub StatusAt : List ℕ → Option (List ℕ) → Option (List ℕ) → Option (List ℕ) → Status → Type 0
 StatusAt script left old new status.Done = IsAtEnd left × ((answers script).stops ≡ None) × Appends old new (answers script).text
 StatusAt script left old new status.Script = Stops (answers script).stops × Appends old new (answers script).text
@@ -49,5 +58,6 @@ StatusAt script left old new status.WriteFault = AppendsFront old new (answers s
 StatusAt script left old new status.Memory = AppendsFront old new (answers script).text
 StatusAt script left old new status.Outside = ⊥
 
-abbrev pub Replays : Option (List ℕ) → Option (List ℕ) → Option (List ℕ) → Option (List ℕ) → Status → Type 0
-Replays before after old new result = (script : List ℕ) × IsTold before script × StatusAt script after old new result
+-- the same of the script that the input tells, and the note of the status was given so
+abbrev pub Replays : Option (List ℕ) → Option (List ℕ) → Option (List ℕ) → Option (List ℕ) → (List ℕ → Type 0) → Status → Type 0
+Replays before after old new noted result = (script : List ℕ) × IsTold before script × StatusAt script after old new result × noted (note_of result (answers script).stops)

@@ -6,5 +6,6 @@ pub mod Event
 pub mod Grammar
 pub mod History
 pub mod Lines
+pub mod Note
 pub mod Script
 pub mod Stepped

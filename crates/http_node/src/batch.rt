@@ -4,14 +4,18 @@ ghost use Rattle.std.specs.Prelude.{◌≡◌, ◌≢◌, ◌≤◌, ◌⊎◌, 
 ghost use Rattle.std.specs.Io.KnownBytes.{Appends, Keeps};
 ghost use Rattle.edge_base.specs.Causes.{Rose};
 ghost use Rattle.http_node.specs.Script.{answers};
-ghost use Rattle.http_node.specs.Batch.{is_replay, Replays};
+ghost use Rattle.http_node.specs.Batch.{is_replay, status_of, Replays};
+ghost use Rattle.http_node.specs.Note.{note_of, IsNoted};
 
+use crate::note::{NOTE_ROOM, USAGE, WANT_OF_MEMORY, put_end_note, write_note};
 use crate::replaying::{ReplayEnd, replay};
+use cdni_base::Scratch;
 use edge_base::{Sink, Source, Status};
 use std::alloc::Global;
 
 /// Runs the command that `words`, those after the program's name, are: `replay` reads a script from `input`
-/// and writes its answers to `output`. It always returns. Nothing is written to `notes` yet.
+/// and writes its answers to `output`. It always returns. One line on how it ended, but for `Done`, goes to `notes`;
+/// where that fails nothing else changes.
 ///
 /// The status is `Done` where the input was read to its end; `Script` where a line was read that is no script line
 /// and every answer before it was written; `Usage` exactly where the words are no command; `ReadFault` and
@@ -27,9 +31,10 @@ pub fn batch_main<S: Source, K: Sink, E: Sink>(
     ensures unread { result ≡ Status.Usage → Keeps (S.left input.old) (S.left input.new) }
     ensures unwritten { result ≡ Status.Usage → Keeps (K.held output.old) (K.held output.new) }
 
-    // What was read and written, by the status.
+    // What was read, written and noted, by the status.
     ensures served { is_replay words.now ≡ true
-        → Replays (S.left input.old) (S.left input.new) (K.held output.old) (K.held output.new) result }
+        → Replays (S.left input.old) (S.left input.new) (K.held output.old) (K.held output.new) (IsNoted (E.held notes.old) (E.held notes.new) (E.faults notes.old) (E.faults notes.new)) result }
+    ensures usage_noted { result ≡ Status.Usage → IsNoted (E.held notes.old) (E.held notes.new) (E.faults notes.old) (E.faults notes.new) (note_of Status.Usage None) }
     ensures complete { is_replay words.now ≡ true
         → (Rose (S.faults input.old) (S.faults input.new) → ⊥) → (Rose (K.faults output.old) (K.faults output.new) → ⊥)
         → IfSome (S.left input.old) (λ script. (answers script).stops ≡ None → (result ≡ Status.Done) ⊎ (result ≡ Status.Memory)) }
@@ -40,12 +45,26 @@ pub fn batch_main<S: Source, K: Sink, E: Sink>(
     ensures write { result ≡ Status.WriteFault → Rose (K.faults output.old) (K.faults output.new) }
     ensures write_later { K.faults output.old ≤ K.faults output.new }
     ensures outside { result ≢ Status.Outside }
-    ensures notes { Keeps (E.held notes.old) (E.held notes.new) }
 {
     if !is_replay(words) {
+        write_note(notes, USAGE);
         return Status::Usage;
     }
-    match replay(alloc, input, output) {
+    let Ok(mut note) = Scratch::new(alloc, NOTE_ROOM) else {
+        write_note(notes, WANT_OF_MEMORY);
+        return Status::Memory;
+    };
+    let end = replay(alloc, input, output);
+    put_end_note(&mut note, end);
+    write_note(notes, note.bytes());
+    status_of(end)
+}
+
+// the status of the end of a replay
+fn status_of(end: ReplayEnd) -> Status
+    ensures { result ≡ status_of end }
+{
+    match end {
         ReplayEnd::Done => Status::Done,
         ReplayEnd::NotALine { line: _, at: _ } => Status::Script,
         ReplayEnd::ReadFault => Status::ReadFault,

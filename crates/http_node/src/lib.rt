@@ -6,6 +6,7 @@ mod ahead;
 mod answer;
 mod batch;
 mod call;
+mod note;
 mod replaying;
 mod script;
 mod step;

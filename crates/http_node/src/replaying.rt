@@ -86,13 +86,7 @@ pub(crate) fn replay<S: Source, K: Sink>(alloc: Global, input: &mut S, output: &
 
 // answers the line that begins at this place of the script; the answer takes the place of what was there
 #[tactic(auto, unfolding(crate::specs::Script::next_line))]
-fn answer_one(
-    alloc: Global,
-    core: &mut Core,
-    at: u64,
-    line: &[u8],
-    answer: &mut Vec<u8>,
-) -> Stepped
+fn answer_one(alloc: Global, core: &mut Core, at: u64, line: &[u8], answer: &mut Vec<u8>) -> Stepped
     ensures { StepsTo core.old core.new at line.now answer.new.items result }
 {
     if !is_in_limits(at, line.len()) {

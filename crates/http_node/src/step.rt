@@ -6,8 +6,8 @@ ghost use Rattle.metadata_objects.specs.Tree.{index_view};
 ghost use Rattle.http_node.specs.Event.{event_of};
 ghost use Rattle.http_node.specs.History.{is_open, without};
 
-use crate::call::{Call, OpenRefresh, Reply};
 use crate::admission::{Judged, judge_request};
+use crate::call::{Call, OpenRefresh, Reply};
 use cdni_base::{Asked, Limits};
 use edge_base::Moment;
 use location_acl::Place;

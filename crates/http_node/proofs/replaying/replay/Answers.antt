@@ -1,4 +1,4 @@
-use Rattle.std.proofs.Common.{arith, refl, sym, ◌∙◌, ap, lit≤}
+use Rattle.std.proofs.Common.{arith, sym, ◌∙◌, ap, lit≤}
 use Rattle.std.proofs.lemmas.Bool.{eqb-true, eqb-false}
 use Rattle.http_node.specs.History.{nothing}
 use Rattle.http_node.proofs.Running.{running_start, replay_unstarted, turn_cut, turn_fits, turn_done, replay_unread, replay_memory, replay_done, replay_open, replay_long, replay_none}

@@ -1,0 +1,74 @@
+//! Notes of how a command ended, one line each.
+
+ghost use Rattle.std.specs.Prelude.{◌≡◌, ◌+◌, ◌≤◌, ◌++◌, [], length, decimal};
+ghost use Rattle.cdni_base.specs.Scratch.{Room};
+ghost use Rattle.http_node.specs.Note.{bad_line_text, end_note, IsNoted};
+
+use crate::replaying::ReplayEnd;
+use cdni_base::Scratch;
+use edge_base::{Sink, write_counted};
+
+/// Room for the longest note of the end of a replay, in bytes.
+pub(crate) const NOTE_ROOM: usize = 96;
+
+/// The note of words that are no command.
+pub(crate) const USAGE: &[u8] = b"usage: cdnid replay | generate N SEED | audit | serve OPTIONS\n";
+
+/// The note of want of memory.
+pub(crate) const WANT_OF_MEMORY: &[u8] = b"want of memory\n";
+
+// writes a note; a fault of the sink is passed over
+pub(crate) fn write_note<E: Sink>(notes: &mut E, note: &[u8])
+    ensures { IsNoted (E.held notes.old) (E.held notes.new) (E.faults notes.old) (E.faults notes.new) note.now }
+{
+    write_counted(notes, note);
+}
+
+// puts the note of the end of a replay into an empty scratch
+pub(crate) fn put_end_note(out: &mut Scratch, end: ReplayEnd)
+    requires { out.old ≡ record { text = []; room = 96 } }
+    ensures { out.new.text ≡ end_note end }
+{
+    match end {
+        ReplayEnd::Done => {}
+        ReplayEnd::NotALine { line, at } => put_bad_line(out, line, at),
+        ReplayEnd::ReadFault => put(out, b"read fault\n"),
+        ReplayEnd::WriteFault => put(out, b"write fault\n"),
+        ReplayEnd::Memory => put(out, WANT_OF_MEMORY),
+    }
+}
+
+fn put_bad_line(out: &mut Scratch, line: u64, at: u64)
+    requires { out.old ≡ record { text = []; room = 96 } }
+    ensures { out.new.text ≡ bad_line_text line at }
+{
+    put(out, b"line ");
+    put_number(out, line);
+    put(out, b" at ");
+    put_number(out, at);
+    put(out, b": not a script line\n");
+}
+
+// adds bytes for which there is room
+fn put(out: &mut Scratch, bytes: &[u8])
+    requires { length out.old.text + length bytes.now ≤ out.old.room }
+    ensures text { out.new ≡ record { text = out.old.text ++ bytes.now; room = out.old.room } }
+    ensures length { length out.new.text ≡ length out.old.text + length bytes.now }
+    ensures room { out.new.room ≡ out.old.room }
+{
+    if !out.append(bytes) {
+        unreachable!();
+    }
+}
+
+// adds a number, for whose at most 20 digits there is room
+fn put_number(out: &mut Scratch, number: u64)
+    requires { length out.old.text + 20 ≤ out.old.room }
+    ensures text { out.new ≡ record { text = out.old.text ++ decimal number; room = out.old.room } }
+    ensures length { length out.new.text ≤ length out.old.text + 20 }
+    ensures room { out.new.room ≡ out.old.room }
+{
+    if !out.append_number(number) {
+        unreachable!();
+    }
+}

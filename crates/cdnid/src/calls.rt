@@ -1,14 +1,17 @@
 //! Each call of the lower crates once, where there is memory, against values from outside.
 
-use cdni_base::{Endpoint, EndpointFault, Limits, Rule, Scratch};
+use cdni_base::{Endpoint, EndpointFault, Ignored, Limits, Protocol, Rule, Scratch, Target};
+use inheritance::effective;
 use json_read::{
     FieldCause, JsonFault, JsonPath, ParseFault, flag_at, list_at, maybe, need, parse, text_at,
     whole_at,
 };
 use listing::{Listing, Text, cut_at, read_decimal, read_digits};
+use location_acl::{Ip, Place};
 use metadata_objects::{Held, HostIndex, MetaFault};
 use std::alloc::Global;
 use std::test::Fail;
+use verdict::{Verdict, judge, plan};
 
 #[test]
 fn texts_and_lists(rt: HostRuntime) -> Result<(), Fail> {
@@ -282,7 +285,17 @@ fn host_index_faults(rt: HostRuntime) -> Result<(), Fail> {
         (
             "{\"hosts\":[{\"host\":\"a\",\"host-metadata\":{\"paths\":null}}]}",
             "/hosts/0/host-metadata/paths",
-            Some(FieldCause::OutOfRange),
+            Some(FieldCause::WrongKind),
+        ),
+        (
+            "{\"hosts\":[{\"host\":\"a\",\"host-metadata\":{\"paths\":[{\"path-metadata\":7}]}}]}",
+            "/hosts/0/host-metadata/paths/0/path-pattern",
+            Some(FieldCause::Missing),
+        ),
+        (
+            "{\"hosts\":[{\"host\":\"a\",\"host-metadata\":{\"paths\":[{\"href\":\"/x\"}]}}]}",
+            "/hosts/0/host-metadata/paths/0",
+            None,
         ),
         ("{\"hosts\":[{\"href\":\"/x\"}]}", "/hosts/0", None),
     ] {
@@ -290,5 +303,53 @@ fn host_index_faults(rt: HostRuntime) -> Result<(), Fail> {
         assert_eq!(rt; found.as_slice(), place.as_bytes(), "{text}");
         assert_eq!(rt; why, cause, "{text}");
     }
+    Ok(())
+}
+
+const TREE: &str =
+    "{\"hosts\":[{\"host\":\"v.example\",\"host-metadata\":{\"metadata\":[{\"generic-metadata-type\":\"MI.SourceMetadata\",\"generic-metadata-value\":{\"sources\":[{\"endpoints\":[\"o.example\"],\"protocol\":\"http/1.1\"}]}},{\"generic-metadata-type\":\"MI.LocationACL\",\"generic-metadata-value\":{}},{\"generic-metadata-type\":\"MI.TimeWindowACL\",\"generic-metadata-value\":{\"times\":[]}}],\"paths\":[{\"path-pattern\":{\"pattern\":\"/a\"},\"path-metadata\":{\"metadata\":[{\"generic-metadata-type\":\"MI.TimeWindowACL\",\"generic-metadata-value\":{}},{\"generic-metadata-type\":\"MI.ProtocolACL\",\"generic-metadata-value\":{}},{\"generic-metadata-type\":\"MI.Cache\",\"generic-metadata-value\":{}},{\"generic-metadata-type\":\"MI.Grouping\",\"generic-metadata-value\":{\"ccid\":\"g\"}}]}}]}}]}";
+
+// a client at no known network or country
+fn client() -> Place {
+    Place {
+        ip: Ip::V4(0),
+        asn: None,
+        country: None,
+    }
+}
+
+#[test]
+fn effective_objects(rt: HostRuntime) -> Result<(), Fail> {
+    let alloc = rt.alloc();
+    let (Ok(index), Ok(target)) = (
+        HostIndex::read(alloc, TREE.as_bytes()),
+        Target::read(alloc, b"http://v.example/a", None, false),
+    ) else {
+        return Err(Fail::from("a tree and a target"));
+    };
+    let effective = effective(alloc, &index, &target)?.expect(&rt, "a host");
+    assert_eq!(rt; effective.sources().expect(&rt, "sources").len(), 1);
+    assert!(rt; effective.location().expect(&rt, "a list").rules.is_none());
+    assert!(rt; effective.time().expect(&rt, "a list").rules.is_none());
+    assert!(rt; effective.protocol().expect(&rt, "a list").rules.is_none());
+    assert!(rt; matches!(effective.ignored(), Some(Ignored::None)));
+    assert!(rt; effective.ccid().expect(&rt, "a ccid").is(b"g"));
+    assert!(rt; effective.unenforceable().is_none());
+    let verdict = judge(alloc, &effective, Protocol::Http, &client(), 0)?;
+    assert!(rt; matches!(verdict, Verdict::Allow));
+    assert_eq!(rt; plan(alloc, &effective)?.len(), 1);
+    Ok(())
+}
+
+#[test]
+fn another_host_has_no_metadata(rt: HostRuntime) -> Result<(), Fail> {
+    let alloc = rt.alloc();
+    let (Ok(index), Ok(target)) = (
+        HostIndex::read(alloc, TREE.as_bytes()),
+        Target::read(alloc, b"http://w.example/a", None, false),
+    ) else {
+        return Err(Fail::from("a tree and a target"));
+    };
+    assert!(rt; effective(alloc, &index, &target)?.is_none());
     Ok(())
 }

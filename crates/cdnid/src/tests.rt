@@ -135,7 +135,184 @@ fn other_words_are_no_command(rt: HostRuntime) -> Result<(), Fail> {
         let (status, output, notes) = ended_by(rt.alloc(), text)?;
         assert_eq!(rt; status, Status::Usage, "{text}");
         assert_eq!(rt; output, 0);
-        assert_eq!(rt; notes, 0);
+        assert_eq!(rt; notes, 62);
+    }
+    Ok(())
+}
+
+// the status of `replay` on the script, and what was noted, by reads and writes of these portions
+fn noted(
+    alloc: Global,
+    script: &str,
+    gives: &[u64],
+    takes: &[u64],
+    note_takes: &[u64],
+) -> Result<(Status, Vec<u8>), Fail> {
+    let words = vec![in alloc; String::from_str(alloc, "replay")?]?;
+    let mut input = MemorySource::new(alloc, script.as_bytes(), gives)?;
+    let mut output = MemorySink::new(alloc, takes)?;
+    let mut notes = MemorySink::new(alloc, note_takes)?;
+    let status = batch_main(alloc, words.as_slice(), &mut input, &mut output, &mut notes);
+    Ok((status, notes.held().to_vec(alloc)?))
+}
+
+#[test]
+fn notes_of_endings(rt: HostRuntime) -> Result<(), Fail> {
+    let fails = [0u64; 1].as_slice();
+    let all = [].as_slice();
+    let cases = [
+        ("0 0 refresh\n", all, all, all, Status::Done, ""),
+        (
+            "0 0 refresh\n0 0 refresh\n0 0 refresh",
+            all,
+            all,
+            all,
+            Status::Script,
+            "line 3 at 24: not a script line\n",
+        ),
+        (
+            "x\n",
+            all,
+            all,
+            [5u64, 0].as_slice(),
+            Status::Script,
+            "line ",
+        ),
+        (
+            "0 0 refresh\n",
+            fails,
+            all,
+            all,
+            Status::ReadFault,
+            "read fault\n",
+        ),
+        (
+            "0 0 refresh\n",
+            all,
+            fails,
+            all,
+            Status::WriteFault,
+            "write fault\n",
+        ),
+        ("0 0 refresh\n", all, fails, fails, Status::WriteFault, ""),
+    ];
+    for (script, gives, takes, note_takes, status, note) in cases {
+        let (ended, held) = noted(rt.alloc(), script, gives, takes, note_takes)?;
+        assert_eq!(rt; ended, status);
+        assert_eq!(rt; held.as_slice(), note.as_bytes());
+    }
+    Ok(())
+}
+
+// a refresh, and a document of `opening` and `closing` so many times around `middle`, between `before` and `after`
+fn document(
+    alloc: Global,
+    before: &str,
+    opening: &str,
+    count: u32,
+    middle: &str,
+    closing: &str,
+    after: &str,
+) -> Result<String, Fail> {
+    let mut script = String::from_str(alloc, "0 0 refresh\n0 0 meta 1 http://up.example/i ")?;
+    script.push_str(before)?;
+    for _ in 0..count {
+        script.push_str(opening)?;
+    }
+    script.push_str(middle)?;
+    for _ in 0..count {
+        script.push_str(closing)?;
+    }
+    script.push_str(after)?;
+    Ok(script)
+}
+
+// before, opening, middle, closing, after; and the answers behind `due 1` for each count
+const LIMITS: [(&str, &str, &str, &str, &str, &[(u32, &str)]); 5] = [
+    (
+        "{\"hosts\":[{\"host\":\"a\",\"host-metadata\":{\"metadata\":[{\"generic-metadata-type\":\"MI.X\",\"generic-metadata-value\":0}",
+        ",{\"generic-metadata-type\":\"MI.X\",\"generic-metadata-value\":0}",
+        "",
+        "",
+        "]}}]}\n",
+        &[
+            (9998, "installed 1\n"),
+            (9999, "failed too-many 10001\n"),
+        ],
+    ),
+    (
+        "{\"hosts\":[{\"host\":\"a\",\"host-metadata\":{",
+        "\"paths\":[{\"path-pattern\":{\"pattern\":\"/*\"},\"path-metadata\":{",
+        "",
+        "}}]",
+        "}}]}\n",
+        &[
+            (16, "installed 1\n"),
+            (17, "failed too-deep 17\n"),
+        ],
+    ),
+    (
+        "{\"hosts\":[{\"host\":\"a\",\"host-metadata\":{\"paths\":[{\"path-pattern\":{\"pattern\":\"",
+        "/",
+        "",
+        "",
+        "\"},\"path-metadata\":{}}]}}]}\n",
+        &[
+            (1024, "installed 1\n"),
+            (
+                1025,
+                "failed field /hosts/0/host-metadata/paths/0/path-pattern/pattern out-of-range\n",
+            ),
+        ],
+    ),
+    (
+        "{\"hosts\":[{\"host\":\"a\",\"host-metadata\":{\"metadata\":[{\"generic-metadata-type\":\"",
+        "T",
+        "",
+        "",
+        "\",\"generic-metadata-value\":0}]}}]}\n",
+        &[
+            (127, "installed 1\n"),
+            (
+                128,
+                "failed field /hosts/0/host-metadata/metadata/0/generic-metadata-type out-of-range\n",
+            ),
+        ],
+    ),
+    (
+        "{\"hosts\":[{\"host\":\"a\",\"host-metadata\":{\"metadata\":[{\"generic-metadata-type\":\"MI.Grouping\",\"generic-metadata-value\":{\"ccid\":\"",
+        "c",
+        "",
+        "",
+        "\"}}]}}]}\n0 0 get GET http/1.1 192.0.2.7 - - http://a/\n",
+        &[
+            (255, "installed 1\ndenied 1 503 no-source\n"),
+            (
+                256,
+                "installed 1\ndenied 1 403 unenforceable mi.grouping\n",
+            ),
+        ],
+    ),
+];
+
+#[test]
+fn limits_of_metadata(rt: HostRuntime) -> Result<(), Fail> {
+    for (before, opening, middle, closing, after, counts) in LIMITS {
+        for (count, answers) in counts {
+            let script = document(
+                rt.alloc(),
+                before,
+                opening,
+                *count,
+                middle,
+                closing,
+                after,
+            )?;
+            let (status, written) = replayed(rt.alloc(), script.as_str(), &[], &[])?;
+            assert_eq!(rt; status, Status::Done);
+            let behind = written.as_slice().strip_prefix(b"due 1\n");
+            assert_eq!(rt; behind, Some(answers.as_bytes()));
+        }
     }
     Ok(())
 }

@@ -18,7 +18,7 @@ mod tests;
 
 pub use acl::{FootprintList, LocationAcl, LocationRule, LocationRuleList};
 pub use block::{Block, BlockFault};
-pub use footprint::{Footprint, Place};
+pub use footprint::{Footprint, Place, asn_of, country_of};
 pub use ip::{AddressFault, Ip};
 pub use line::PlaceLine;
 pub use table::{PlaceFault, PlaceTable};

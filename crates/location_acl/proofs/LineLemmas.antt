@@ -229,3 +229,74 @@ read_stops bytes rest lines number read none more numbered =
 pub some_bytes : (n : ℕ) (empty : Bool) → empty ≡ (n == 0) → empty ≡ false → 0 < n
 some_bytes zero empty is some = let e : true ≡ false = sym is ∙ some in absurd (cc)
 some_bytes (suc n) empty is some = omega arith
+
+-- a text has one list of lines, or one first line that does not read
+are_first : (bytes : List ℕ) (line : PlaceLine) (lines : List PlaceLine) → AreLines bytes (line ∷ lines) → (rest : List ℕ) × (first_line bytes ≡ Some (line, rest)) × AreLines rest lines
+are_first bytes line lines are = (
+  are.1,
+  ap (λ (o : Option (List ℕ × List ℕ)). o >>= λ parts. option_map {U = PlaceLine × List ℕ} (λ (l : PlaceLine). (l, parts.1)) (line_of parts.0)) (parts_from 10 bytes are.0 are.1 are.2 (line_free are.0 line are.3))
+      ∙ ap (λ (o : Option PlaceLine). option_map {U = PlaceLine × List ℕ} (λ (l : PlaceLine). (l, are.1)) o) (line_is are.0 line are.3),
+  are.4,
+)
+
+not_empty : (text rest : List ℕ) → [] ≡ text ++ 10 ∷ rest → ⊥
+not_empty text rest is = omega (arith, ap length is, length-append text (10 ∷ rest))
+
+pub one_list : (bytes : List ℕ) (lines other : List PlaceLine) → AreLines bytes lines → AreLines bytes other → lines ≡ other
+one_list bytes [] [] are is = refl
+one_list bytes [] (m ∷ other) are is = absurd (not_empty is.0 is.1 (sym are ∙ is.2))
+one_list bytes (l ∷ lines) [] are is = absurd (not_empty are.0 are.1 (sym is ∙ are.2))
+one_list bytes (l ∷ lines) (m ∷ other) are is =
+    let a = are_first bytes l lines are in
+    let b = are_first bytes m other is in
+    let pair = same_some (first_line bytes) (l, a.0) (m, b.0) a.1 b.1 in
+    let line : l ≡ m = ap (λ (p : PlaceLine × List ℕ). p.0) pair in
+    let rest : a.0 ≡ b.0 = ap (λ (p : PlaceLine × List ℕ). p.1) pair in
+    ap (λ (x : PlaceLine). x ∷ lines) line ∙ ap (λ (xs : List PlaceLine). m ∷ xs) (one_list b.0 lines other (subst (λ (xs : List ℕ). AreLines xs lines) rest a.2) b.2)
+
+-- the first line of a text whose front are lines
+front_first : (bytes front rest : List ℕ) (line : PlaceLine) (lines : List PlaceLine) → bytes ≡ front ++ rest → AreLines front (line ∷ lines) → (more : List ℕ) × (first_line bytes ≡ Some (line, more ++ rest)) × AreLines more lines
+front_first bytes front rest line lines is are =
+    let whole : bytes ≡ are.0 ++ 10 ∷ (are.1 ++ rest) = is ∙ ap (λ (xs : List ℕ). xs ++ rest) are.2 ∙ append_assoc are.0 (10 ∷ are.1) rest in (
+      are.1,
+      ap (λ (o : Option (List ℕ × List ℕ)). o >>= λ parts. option_map {U = PlaceLine × List ℕ} (λ (l : PlaceLine). (l, parts.1)) (line_of parts.0)) (parts_from 10 bytes are.0 (are.1 ++ rest) whole (line_free are.0 line are.3))
+          ∙ ap (λ (o : Option PlaceLine). option_map {U = PlaceLine × List ℕ} (λ (l : PlaceLine). (l, are.1 ++ rest)) o) (line_is are.0 line are.3),
+      are.4,
+    )
+
+-- bytes that no line begins
+abbrev pub BeginsNoLine : List ℕ → Type 0
+BeginsNoLine rest = (0 < length rest) × ((text after : List ℕ) (line : PlaceLine) → rest ≡ text ++ 10 ∷ after → IsLine text line → ⊥)
+
+no_line_behind : (bytes front rest : List ℕ) (lines all : List PlaceLine) → bytes ≡ front ++ rest → AreLines front lines → BeginsNoLine rest → AreLines bytes all → ⊥
+no_line_behind bytes front rest [] [] is are none all_are = omega (arith, none.0, ap length (sym all_are ∙ is ∙ ap (λ (xs : List ℕ). xs ++ rest) are))
+no_line_behind bytes front rest [] (m ∷ all) is are none all_are =
+    none.1 all_are.0 all_are.1 m (sym (ap (λ (xs : List ℕ). xs ++ rest) are) ∙ sym is ∙ all_are.2) all_are.3
+no_line_behind bytes front rest (l ∷ lines) [] is are none all_are =
+    not_empty are.0 (are.1 ++ rest) (sym all_are ∙ is ∙ ap (λ (xs : List ℕ). xs ++ rest) are.2 ∙ append_assoc are.0 (10 ∷ are.1) rest)
+no_line_behind bytes front rest (l ∷ lines) (m ∷ all) is are none all_are =
+    let a = front_first bytes front rest l lines is are in
+    let b = are_first bytes m all all_are in
+    let pair = same_some (first_line bytes) (l, a.0 ++ rest) (m, b.0) a.1 b.1 in
+    let more : b.0 ≡ a.0 ++ rest = ap (λ (p : PlaceLine × List ℕ). p.1) (sym pair) in
+    no_line_behind b.0 a.0 rest lines all more a.2 none b.2
+
+pub lines_or_stop : (bytes : List ℕ) (lines : List PlaceLine) (number : ℕ) → AreLines bytes lines → StopsAt bytes number → ⊥
+lines_or_stop bytes lines number are h = no_line_behind bytes h.front h.rest h.lines lines h.parts h.before (h.more, h.none) are
+
+one_count : (bytes front rest other behind : List ℕ) (lines more : List PlaceLine) → bytes ≡ front ++ rest → AreLines front lines → BeginsNoLine rest → bytes ≡ other ++ behind → AreLines other more → BeginsNoLine behind → length lines ≡ length more
+one_count bytes front rest other behind [] [] is are none was there no_more = refl
+one_count bytes front rest other behind [] (m ∷ more) is are none was there no_more =
+    absurd (none.1 there.0 (there.1 ++ behind) m (sym (ap (λ (xs : List ℕ). xs ++ rest) are) ∙ sym is ∙ was ∙ ap (λ (xs : List ℕ). xs ++ behind) there.2 ∙ append_assoc there.0 (10 ∷ there.1) behind) there.3)
+one_count bytes front rest other behind (l ∷ lines) [] is are none was there no_more =
+    absurd (no_more.1 are.0 (are.1 ++ rest) l (sym (ap (λ (xs : List ℕ). xs ++ behind) there) ∙ sym was ∙ is ∙ ap (λ (xs : List ℕ). xs ++ rest) are.2 ∙ append_assoc are.0 (10 ∷ are.1) rest) are.3)
+one_count bytes front rest other behind (l ∷ lines) (m ∷ more) is are none was there no_more =
+    let a = front_first bytes front rest l lines is are in
+    let b = front_first bytes other behind m more was there in
+    let pair = same_some (first_line bytes) (l, a.0 ++ rest) (m, b.0 ++ behind) a.1 b.1 in
+    let same : a.0 ++ rest ≡ b.0 ++ behind = ap (λ (p : PlaceLine × List ℕ). p.1) pair in
+    ap suc (one_count (a.0 ++ rest) a.0 rest b.0 behind lines more refl a.2 none same b.2 no_more)
+
+pub one_stop : (bytes : List ℕ) (number other : ℕ) → StopsAt bytes number → StopsAt bytes other → number ≡ other
+one_stop bytes number other h k =
+    omega (arith, h.numbered, k.numbered, one_count bytes h.front h.rest k.front k.rest h.lines k.lines h.parts h.before (h.more, h.none) k.parts k.before (k.more, k.none))

@@ -7,6 +7,7 @@ ghost use Rattle.location_acl.specs.declared.block.BlockFault.{BlockFault};
 ghost use Rattle.location_acl.specs.declared.footprint.Place.{Place};
 ghost use Rattle.location_acl.specs.declared.line.PlaceLine.{PlaceLine};
 ghost use Rattle.location_acl.specs.Block.{ReadsBlock, has_same_front, is_in_same_block};
+ghost use Rattle.location_acl.specs.Line.{AreLines, StopsAt};
 ghost use Rattle.location_acl.specs.Table.{GivesPlace};
 ghost use Rattle.location_acl.specs.Address.{IsAddress};
 ghost use Rattle.location_acl.specs.Reading.{ip_of};
@@ -49,4 +50,14 @@ pub fn bits_past_the_length_do_not_count()
 pub fn address_has_one_place()
     ensures { (lines : List PlaceLine) (ip : Ip) (place other : Place) →
         GivesPlace lines ip place → GivesPlace lines ip other → place ≡ other }
+{}
+
+/// Each text is one list of lines of a place file, or has one first line that does not read, and never both.
+pub fn text_has_one_place_file()
+    ensures lines { (bytes : List ℕ) (lines other : List PlaceLine) →
+        AreLines bytes lines → AreLines bytes other → lines ≡ other }
+    ensures stop { (bytes : List ℕ) (number other : ℕ) →
+        StopsAt bytes number → StopsAt bytes other → number ≡ other }
+    ensures never_both { (bytes : List ℕ) (lines : List PlaceLine) (number : ℕ) →
+        AreLines bytes lines → StopsAt bytes number → ⊥ }
 {}

@@ -384,4 +384,5 @@ fn laws_are_cited() {
     laws::longest_block_holds_one();
     laws::bits_past_the_length_do_not_count();
     laws::address_has_one_place();
+    laws::text_has_one_place_file();
 }

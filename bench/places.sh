@@ -1,0 +1,26 @@
+#!/usr/bin/env bash
+# Instructions of one look-up of an address in a place table of 100,000 lines, counted under callgrind as the difference
+# of 2,000 and 1,000 look-ups, and of one plain scan, as that of 20 and 10. What is asked for is at most 3,000.
+set -euo pipefail
+cd "$(dirname "$0")/../crates/place_bench"
+rt run > /dev/null 2>&1
+
+# The instructions of a run: how many lines, how many addresses, by the table (0) or the scan (1), IPv4 (0) or IPv6 (1).
+instructions() {
+    valgrind --tool=callgrind --callgrind-out-file=/dev/null out/place_bench "$@" 2>&1 > /dev/null |
+        awk '/Collected/ { print $4 }'
+}
+
+# The instructions of one look-up, as the difference of two runs that look up this many addresses and half of them.
+one_lookup() {
+    local count=$1 more less
+    shift
+    more=$(instructions 100000 "$count" "$@")
+    less=$(instructions 100000 $((count / 2)) "$@")
+    echo $(((more - less) / (count / 2)))
+}
+
+kinds=(IPv4 IPv6)
+for six in 0 1; do
+    echo "${kinds[$six]}: a look-up takes $(one_lookup 2000 0 "$six") instructions, a scan $(one_lookup 20 1 "$six")"
+done

@@ -17,12 +17,12 @@ use Rattle.cdni_base.specs.Fronts.{IsSomeEndpoint, IsLongestFront, StandsAtFront
 use Rattle.cdni_base.proofs.EndpointLemmas.{all_of_prefix, folded, folded-le, value_is, host_of_length, first_cases, host_length-le, host_is_read, bracketed_is_read, name_length, host_rest, name_first, endpoint_parts, no_endpoint, port_after, no_port_after, no_port, of_number, digits_port}
 
 -- a prefix of both sides
-take_front : (j m : ℕ) (xs rest ys : List ℕ) → take m xs ++ rest ≡ ys → j ≤ m → m ≤ length xs → take j xs ≡ take j ys
+pub take_front : (j m : ℕ) (xs rest ys : List ℕ) → take m xs ++ rest ≡ ys → j ≤ m → m ≤ length xs → take j xs ≡ take j ys
 take_front j m xs rest ys e within fits =
     let long = length-take m xs in
     sym (take-take j m xs within) ∙ sym (take-append-le j (take m xs) rest (omega arith)) ∙ ap (take j) e
 
-prefix_from_all : (test : ℕ → Bool) (n : ℕ) (xs : List ℕ) → list_all test (take n xs) ≡ true → n ≤ length xs → n ≤ prefix_len test xs
+pub prefix_from_all : (test : ℕ → Bool) (n : ℕ) (xs : List ℕ) → list_all test (take n xs) ≡ true → n ≤ length xs → n ≤ prefix_len test xs
 prefix_from_all test zero xs h fits = omega arith
 prefix_from_all test (suc n) [] h fits = absurd (omega arith)
 prefix_from_all test (suc n) (x ∷ xs) h fits =
@@ -30,7 +30,7 @@ prefix_from_all test (suc n) (x ∷ xs) h fits =
     let rest = prefix_from_all test n xs p.1 (omega arith) in
     omega (arith, cond-true (test x) (1 + prefix_len test xs) 0 p.0)
 
-all_of_take : (test : ℕ → Bool) (n : ℕ) (xs : List ℕ) → list_all test xs ≡ true → list_all test (take n xs) ≡ true
+pub all_of_take : (test : ℕ → Bool) (n : ℕ) (xs : List ℕ) → list_all test xs ≡ true → list_all test (take n xs) ≡ true
 all_of_take test zero xs h = refl
 all_of_take test (suc n) [] h = refl
 all_of_take test (suc n) (x ∷ xs) h = let p = and_parts (test x) (list_all test xs) h in and_from (test x) (list_all test (take n xs)) p.0 (all_of_take test n xs p.1)
@@ -39,10 +39,10 @@ all_append : (test : ℕ → Bool) (xs ys : List ℕ) → list_all test xs ≡ t
 all_append test [] ys h k = k
 all_append test (x ∷ xs) ys h k = let p = and_parts (test x) (list_all test xs) h in and_from (test x) (list_all test (xs ++ ys)) p.0 (all_append test xs ys p.1 k)
 
-heads : (a b : ℕ) (xs ys : List ℕ) → a ∷ xs ≡ b ∷ ys → a ≡ b
+pub heads : (a b : ℕ) (xs ys : List ℕ) → a ∷ xs ≡ b ∷ ys → a ≡ b
 heads a b xs ys e = ap (λ (zs : List ℕ). get_or zs 0 0) e
 
-tails : (a b : ℕ) (xs ys : List ℕ) → a ∷ xs ≡ b ∷ ys → xs ≡ ys
+pub tails : (a b : ℕ) (xs ys : List ℕ) → a ∷ xs ≡ b ∷ ys → xs ≡ ys
 tails a b xs ys e = ap (drop 1) e
 
 -- the first byte of a host

@@ -45,10 +45,10 @@ all_of_prefix test (x ∷ xs) (suc n) h =
     (λ gone. absurd (omega (arith, cond-false (test x) (1 + prefix_len test xs) 0 gone))) (cases_Bool (test x))
 
 -- a byte of a name is no `[`
-name_first : (byte : ℕ) → is_name_byte byte ≡ true → eqb byte 91 ≡ false
+pub name_first : (byte : ℕ) → is_name_byte byte ≡ true → eqb byte 91 ≡ false
 name_first byte h = ne_eqb byte 91 (λ e. let f : is_name_byte 91 ≡ true = ap is_name_byte (sym e) ∙ h in absurd (cc))
 
-name_length : (byte : ℕ) (bytes : List ℕ) → eqb byte 91 ≡ false → host_length (byte ∷ bytes) ≡ min (prefix_len is_name_byte (byte ∷ bytes)) 255
+pub name_length : (byte : ℕ) (bytes : List ℕ) → eqb byte 91 ≡ false → host_length (byte ∷ bytes) ≡ min (prefix_len is_name_byte (byte ∷ bytes)) 255
 unfolding host_length
 name_length byte bytes h = cond-false (eqb byte 91) _ _ h
 
@@ -64,7 +64,7 @@ unfolding host_length
 bracketed_length bytes n e some fits close =
     rw e (cond-true (ltb 0 n && leb n 253 && eqb (get_or (91 ∷ bytes) (n + 1) 0) 93) (n + 2) 0 (and_from _ _ (and_from _ _ (lt-ltb 0 n some) (le-leb n 253 fits)) (eq-eqb _ 93 close)))
 
-bracketed_is_read : (host rest : List ℕ) → IsBracketed host → host_length (host ++ rest) ≡ length host
+pub bracketed_is_read : (host rest : List ℕ) → IsBracketed host → host_length (host ++ rest) ≡ length host
 bracketed_is_read host rest bracketed =
     let address = bracketed.0 in
     let behind : (address ++ 93 ∷ []) ++ rest ≡ address ++ 93 ∷ rest = append_assoc address (93 ∷ []) rest in
@@ -74,7 +74,7 @@ bracketed_is_read host rest bracketed =
     let close : get_or (91 ∷ (address ++ 93 ∷ rest)) (length address + 1) 0 ≡ 93 = rw (add-one (length address)) (get_or-append_seam address 93 rest 0) in
     ap host_length whole ∙ bracketed_length (address ++ 93 ∷ rest) (length address) count bracketed.2 (omega (arith, long, bracketed.3)) close ∙ sym long
 
-host_is_read : (host rest : List ℕ) → IsHost host → prefix_len is_name_byte rest ≡ 0 → host_length (host ++ rest) ≡ length host
+pub host_is_read : (host rest : List ℕ) → IsHost host → prefix_len is_name_byte rest ≡ 0 → host_length (host ++ rest) ≡ length host
 host_is_read host rest (inl name) stop = name_is_read host rest name stop
 host_is_read host rest (inr bracketed) stop = bracketed_is_read host rest bracketed
 
@@ -132,7 +132,7 @@ closed-le bytes h =
     omega (arith, past_end bytes n at, closed_length bytes h)
 
 -- a property of what begins with `[`, and of what begins with another byte
-first_cases : (P : List ℕ → Type 0) → P [] → ((bytes : List ℕ) → P (91 ∷ bytes)) → ((byte : ℕ) (bytes : List ℕ) → eqb byte 91 ≡ false → P (byte ∷ bytes)) → (text : List ℕ) → P text
+pub first_cases : (P : List ℕ → Type 0) → P [] → ((bytes : List ℕ) → P (91 ∷ bytes)) → ((byte : ℕ) (bytes : List ℕ) → eqb byte 91 ≡ false → P (byte ∷ bytes)) → (text : List ℕ) → P text
 first_cases P nothing bracket other [] = nothing
 first_cases P nothing bracket other (byte ∷ bytes) = ⊎_elim (λ here. subst (λ (b : ℕ). P (b ∷ bytes)) (sym (eqb-true byte 91 here)) (bracket bytes)) (λ gone. other byte bytes gone) (cases_Bool (eqb byte 91))
 
@@ -147,17 +147,17 @@ host_length-le text =
     (λ byte bytes h. omega (arith, name_length byte bytes h, prefix_len-le-length is_name_byte (byte ∷ bytes))) text
 
 -- the number that digits write, with no limit
-abbrev folded : ℕ → List ℕ → ℕ
+abbrev pub folded : ℕ → List ℕ → ℕ
 folded n [] = n
 folded n (b ∷ bs) = folded (n * 10 + (b - 48)) bs
 
 own : IsNumeralModel (λ ds. all_ascii_digits ds ≡ true) (folded 0)
 own = numerals_by_fold _ (search rules) folded (search rules)
 
-value_is : (digits : List ℕ) → all_ascii_digits digits ≡ true → folded 0 digits ≡ digits_value 10 digits
+pub value_is : (digits : List ℕ) → all_ascii_digits digits ≡ true → folded 0 digits ≡ digits_value 10 digits
 value_is digits all = own.same digits (own.to digits all)
 
-folded-le : (n : ℕ) (bs : List ℕ) → n ≤ folded n bs
+pub folded-le : (n : ℕ) (bs : List ℕ) → n ≤ folded n bs
 folded-le n [] = omega arith
 folded-le n (b ∷ bs) = let h = folded-le (n * 10 + (b - 48)) bs in omega arith
 
@@ -207,22 +207,22 @@ port_of_number digits port some e =
     (some, leb-true (length digits) 5 g.0, number.0, sym (value_is digits number.0) ∙ number.1, range.1, range.2)
 
 -- what follows a host
-port_after : (digits : List ℕ) → port_of (58 ∷ digits) ≡ port_of_digits digits
+pub port_after : (digits : List ℕ) → port_of (58 ∷ digits) ≡ port_of_digits digits
 unfolding port_of
 port_after digits = cond-false (eqb (length (58 ∷ digits)) 0) (Ok None) (port_of_digits digits) (ne_eqb (length (58 ∷ digits)) 0 (λ e. omega (arith, e)))
 
-no_port_after : (byte : ℕ) (bytes : List ℕ) → eqb byte 58 ≡ false → port_of (byte ∷ bytes) ≡ Err 0
+pub no_port_after : (byte : ℕ) (bytes : List ℕ) → eqb byte 58 ≡ false → port_of (byte ∷ bytes) ≡ Err 0
 unfolding port_of
 no_port_after byte bytes h = cond-false (eqb (length (byte ∷ bytes)) 0) (Ok None) _ (ne_eqb (length (byte ∷ bytes)) 0 (λ e. omega (arith, e))) ∙ cond-false (eqb byte 58) (port_of_digits bytes) (Err 0) h
 
-no_port : port_of [] ≡ Ok None
+pub no_port : port_of [] ≡ Ok None
 unfolding port_of
 no_port = refl
 
-abbrev of_number : Option ℕ → ℕ → Result (Option ℕ) ℕ
+abbrev pub of_number : Option ℕ → ℕ → Result (Option ℕ) ℕ
 of_number number front = option_map_or (λ n. Ok (Some n)) number (Err front)
 
-digits_port : (digit : ℕ) (digits : List ℕ) → port_of_digits (digit ∷ digits) ≡ of_number (port_number (digit ∷ digits)) (port_front 0 0 (digit ∷ digits) + 1)
+pub digits_port : (digit : ℕ) (digits : List ℕ) → port_of_digits (digit ∷ digits) ≡ of_number (port_number (digit ∷ digits)) (port_front 0 0 (digit ∷ digits) + 1)
 digits_port digit digits = cond-false (eqb (length (digit ∷ digits)) 0) (Ok None) _ (ne_eqb (length (digit ∷ digits)) 0 (λ e. omega (arith, e)))
 
 some_digits : (digits : List ℕ) (port : ℕ) → IsPort digits port → port_of_digits digits ≡ Ok (Some port)
@@ -251,20 +251,20 @@ port_of_read (byte ∷ bytes) port e =
     subst (λ (b : ℕ). IsPortPart (b ∷ bytes) port) (sym is) (digits_read bytes port (sym (port_after bytes) ∙ subst (λ (b : ℕ). port_of (b ∷ bytes) ≡ Ok port) is e)))
     (λ gone. absurd (err_ok port 0 (sym (no_port_after byte bytes gone) ∙ e))) (cases_Bool (eqb byte 58))
 
-host_rest : (rest : List ℕ) (port : Option ℕ) → IsPortPart rest port → prefix_len is_name_byte rest ≡ 0
+pub host_rest : (rest : List ℕ) (port : Option ℕ) → IsPortPart rest port → prefix_len is_name_byte rest ≡ 0
 host_rest rest None (inl e) = rw e refl
 host_rest rest None (inr e) = rw e refl
 host_rest rest (Some port) is = rw is.1 refl
 
-some_host : (host : List ℕ) → IsHost host → 0 < length host
+pub some_host : (host : List ℕ) → IsHost host → 0 < length host
 some_host host (inl name) = name.0
 some_host host (inr bracketed) = omega (arith, ap length bracketed.1)
 
-endpoint_parts : (text : List ℕ) (n : ℕ) → host_length text ≡ n → 0 < n → endpoint_of text ≡ endpoint_at (take n text) (port_of (drop n text))
+pub endpoint_parts : (text : List ℕ) (n : ℕ) → host_length text ≡ n → 0 < n → endpoint_of text ≡ endpoint_at (take n text) (port_of (drop n text))
 unfolding endpoint_of
 endpoint_parts text n e some = rw e (cond-false (eqb n 0) (Err (BadHost (host_front text))) (endpoint_at (take n text) (port_of (drop n text))) (ne_eqb n 0 (λ z. omega (arith, z))))
 
-no_endpoint : (text : List ℕ) → host_length text ≡ 0 → endpoint_of text ≡ Err (BadHost (host_front text))
+pub no_endpoint : (text : List ℕ) → host_length text ≡ 0 → endpoint_of text ≡ Err (BadHost (host_front text))
 unfolding endpoint_of
 no_endpoint text e = rw e refl
 

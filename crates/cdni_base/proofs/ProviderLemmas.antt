@@ -17,7 +17,7 @@ use Rattle.cdni_base.specs.Provider.{IsProvider, IsProviderId, as_length, wrong_
 use Rattle.cdni_base.proofs.EndpointLemmas.{ok_same, err_ok, prefix_all, all_of_prefix}
 
 -- digits as bytes that are all digits
-digits_all : (digits : List ℕ) → all_ascii_digits digits ≡ list_all is_ascii_digit digits
+pub digits_all : (digits : List ℕ) → all_ascii_digits digits ≡ list_all is_ascii_digit digits
 digits_all [] = refl
 digits_all (byte ∷ bytes) = ap (λ (x : Bool). is_ascii_digit byte && x) (digits_all bytes)
 
@@ -37,14 +37,14 @@ number_right text count size some fits colon long some_size fits_size ends =
     cond-true (ltb 0 count && leb count 10 && eqb (get_or text (count + 2) 0) 58) (wrong_qualifier text (count + 3) (prefix_len is_name_byte (drop (count + 3) text))) (Some (min count 10 + 2)) (and_from _ _ (and_from _ _ (lt-ltb 0 count some) (le-leb count 10 fits)) (eq-eqb (get_or text (count + 2) 0) 58 colon))
     ∙ ap (wrong_qualifier text (count + 3)) long ∙ qualifier_right text (count + 3) size some_size fits_size ends
 
-as_right : (rest : List ℕ) → wrong_place (65 ∷ 83 ∷ rest) ≡ wrong_number (65 ∷ 83 ∷ rest) (prefix_len is_ascii_digit rest)
+pub as_right : (rest : List ℕ) → wrong_place (65 ∷ 83 ∷ rest) ≡ wrong_number (65 ∷ 83 ∷ rest) (prefix_len is_ascii_digit rest)
 unfolding wrong_place
 as_right rest = refl
 
-two_more : (n : ℕ) → n + 2 ≡ suc (suc n)
+pub two_more : (n : ℕ) → n + 2 ≡ suc (suc n)
 two_more n = omega arith
 
-three_more : (n : ℕ) → n + 3 ≡ suc (suc (n + 1))
+pub three_more : (n : ℕ) → n + 3 ≡ suc (suc (n + 1))
 three_more n = omega arith
 
 written_right : (digits qualifier : List ℕ) → 0 < length digits → length digits ≤ 10 → all_ascii_digits digits ≡ true → 0 < length qualifier → length qualifier ≤ 64 → list_all is_name_byte qualifier ≡ true → wrong_place (65 ∷ 83 ∷ (digits ++ 58 ∷ qualifier)) ≡ None
@@ -83,7 +83,7 @@ past_end (x ∷ xs) zero h = omega arith
 past_end (x ∷ xs) (suc n) h = omega (arith, past_end xs n h)
 
 -- a list is cut at a byte
-cut_at : (bytes : List ℕ) (n : ℕ) → get_or bytes n 0 ≡ 58 → bytes ≡ take n bytes ++ 58 ∷ drop (n + 1) bytes
+pub cut_at : (bytes : List ℕ) (n : ℕ) → get_or bytes n 0 ≡ 58 → bytes ≡ take n bytes ++ 58 ∷ drop (n + 1) bytes
 cut_at bytes n h =
     let front : take (n + 1) bytes ≡ take n bytes ++ 58 ∷ [] = ap (λ (k : ℕ). take k bytes) (add-one n) ∙ take-suc bytes n 0 (past_end bytes n h) ∙ ap (λ (b : ℕ). take n bytes ++ b ∷ []) h in
     sym (take-append-drop (n + 1) bytes) ∙ ap (λ (xs : List ℕ). xs ++ drop (n + 1) bytes) front ∙ append_assoc (take n bytes) (58 ∷ []) (drop (n + 1) bytes)

@@ -111,11 +111,11 @@ no_scheme : (more : List ℕ) → scheme_of (47 ∷ more) ≡ None
 unfolding scheme_of
 no_scheme more = refl
 
-within_limit : (text : List ℕ) (host : Option (List ℕ)) (secure : Bool) → length text ≤ 4096 → target_of text host secure ≡ target_by (scheme_of text) text host secure
+pub within_limit : (text : List ℕ) (host : Option (List ℕ)) (secure : Bool) → length text ≤ 4096 → target_of text host secure ≡ target_by (scheme_of text) text host secure
 unfolding target_of
 within_limit text host secure h = cond-false (ltb 4096 (length text)) (Err (TooLong (length text))) (target_by (scheme_of text) text host secure) (le-ltb 4096 (length text) h)
 
-past_limit : (text : List ℕ) (host : Option (List ℕ)) (secure : Bool) → 4096 < length text → target_of text host secure ≡ Err (TooLong (length text))
+pub past_limit : (text : List ℕ) (host : Option (List ℕ)) (secure : Bool) → 4096 < length text → target_of text host secure ≡ Err (TooLong (length text))
 unfolding target_of
 past_limit text host secure h = cond-true (ltb 4096 (length text)) (Err (TooLong (length text))) (target_by (scheme_of text) text host secure) (lt-ltb 4096 (length text) h)
 
@@ -193,7 +193,7 @@ endpoint_before : (text : List ℕ) (endpoint : Endpoint) → IsEndpoint text en
 endpoint_before text endpoint is = ap (list_all is_before_path) is.2 ∙ all_append is_before_path is.0 is.1 (host_before is.0 is.3) (port_before is.1 endpoint.port is.5)
 
 -- a text with a scheme, cut before its path
-absolute_parts : (protocol : Protocol) (text authority rest : List ℕ) → drop (scheme_length protocol) text ≡ authority ++ rest → prefix_len is_before_path (authority ++ rest) ≡ length authority → absolute_target protocol text ≡ target_after (endpoint_of authority) (is_https protocol) (first_wrong (scheme_length protocol + length authority) rest) rest
+pub absolute_parts : (protocol : Protocol) (text authority rest : List ℕ) → drop (scheme_length protocol) text ≡ authority ++ rest → prefix_len is_before_path (authority ++ rest) ≡ length authority → absolute_target protocol text ≡ target_after (endpoint_of authority) (is_https protocol) (first_wrong (scheme_length protocol + length authority) rest) rest
 unfolding absolute_target
 absolute_parts protocol text authority rest cut count =
     let n = scheme_length protocol in

@@ -1,4 +1,5 @@
 pub mod Endpoint
+pub mod Fronts
 pub mod Grammar
 pub mod Key
 pub mod Limits

@@ -10,6 +10,7 @@ use Rattle.cdni_base.specs.declared.provider.ProviderId.{ProviderId}
 use Rattle.cdni_base.specs.declared.provider.ProviderFault.{ProviderFault}
 use Rattle.cdni_base.specs.declared.provider.ProviderFault.TheVariants.{Bad, Memory}
 use Rattle.cdni_base.specs.Endpoint.{is_name_byte}
+use Rattle.cdni_base.specs.Fronts.{IsLongestFront}
 
 -- the text is `AS`, 1 to 10 digits, `:`, and 1 to 64 letters, digits, `-`, `.` and `_`
 abbrev pub IsProvider : List ℕ → Type 0
@@ -53,3 +54,9 @@ abbrev pub AnswersProvider : List ℕ → Result ProviderId ProviderFault → Ty
 AnswersProvider text (Ok id) = IsProviderId text id
 AnswersProvider text (Err Memory) = Unit {0}
 AnswersProvider text (Err fault) = (id : ProviderId) → IsProviderId text id → ⊥
+
+-- its fault stands where no provider id goes on
+abbrev pub ProviderStands : List ℕ → Result ProviderId ProviderFault → Type 0
+ProviderStands text (Err (Bad at)) = IsLongestFront IsProvider text at
+ProviderStands text (Err Memory) = Unit {0}
+ProviderStands text (Ok id) = Unit {0}

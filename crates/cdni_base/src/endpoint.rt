@@ -4,6 +4,7 @@ ghost use Rattle.std.specs.Prelude.{◌≡◌, ◌==◌, ◌<◌, ◌≤◌, len
 ghost use Rattle.std.specs.List.{prefix_len};
 ghost use Rattle.std.specs.Str.{str_to_ascii_lowercase};
 ghost use Rattle.cdni_base.specs.Endpoint.{is_name_byte, is_address_byte, host_length, host_front, port_of, port_number, port_front, ReadsEndpoint};
+ghost use Rattle.cdni_base.specs.Fronts.{StandsAtFront};
 ghost use Rattle.cdni_base.specs.Grammar.{AnswersEndpoint};
 
 use listing::{Listing, Text, read_digits};
@@ -54,6 +55,7 @@ impl Endpoint {
     pub fn read(alloc: Global, text: &[u8]) -> Result<Endpoint, EndpointFault>
         ensures value { ReadsEndpoint text.now result }
         ensures grammar { AnswersEndpoint text.now result }
+        ensures place { StandsAtFront text.now result }
     {
         read_endpoint(alloc, text)
     }

@@ -11,6 +11,8 @@ mod provider;
 mod rule;
 mod scratch;
 mod target;
+#[cfg(test)]
+mod tests;
 mod url;
 
 pub use body::Body;

@@ -4,7 +4,7 @@ ghost use Rattle.std.specs.Prelude.{◌≡◌, ◌+◌, ◌≤◌, ◌==◌, IfN
 ghost use Rattle.std.specs.List.{prefix_len};
 ghost use Rattle.std.specs.Char.{is_ascii_digit};
 ghost use Rattle.cdni_base.specs.Endpoint.{is_name_byte};
-ghost use Rattle.cdni_base.specs.Provider.{as_length, wrong_qualifier, wrong_number, wrong_place, ReadsProvider, AnswersProvider};
+ghost use Rattle.cdni_base.specs.Provider.{as_length, wrong_qualifier, wrong_number, wrong_place, ReadsProvider, AnswersProvider, ProviderStands};
 
 use crate::endpoint::name_length;
 use listing::Text;
@@ -43,6 +43,7 @@ impl ProviderId {
     pub fn read(alloc: Global, text: &[u8]) -> Result<ProviderId, ProviderFault>
         ensures value { ReadsProvider text.now result }
         ensures grammar { AnswersProvider text.now result }
+        ensures place { ProviderStands text.now result }
     {
         read_provider(alloc, text)
     }

@@ -4,6 +4,7 @@ ghost use Rattle.std.specs.Prelude.{◌≡◌, ◌≤◌, ◌+◌, ℕ, length, 
 ghost use Rattle.std.specs.List.{prefix_len};
 ghost use Rattle.cdni_base.specs.Target.{begins_with, scheme_of, scheme_length, is_https, is_before_path, is_unreserved, is_sub_delimiter, is_plain, is_taken, wrong_byte, first_wrong, first_wrong_of_path, path_or_root, port_or_default, target_at, target_after, absolute_target, url_text, Reads, ReadsTarget};
 ghost use Rattle.cdni_base.specs.Endpoint.{endpoint_of};
+ghost use Rattle.cdni_base.specs.Fronts.{StandsInEndpoint};
 ghost use Rattle.cdni_base.specs.Grammar.{AnswersTarget};
 
 use crate::endpoint::{Endpoint, EndpointFault, EndpointList, HostName};
@@ -110,6 +111,7 @@ impl Target {
     ) -> Result<Target, TargetFault>
         ensures value { ReadsTarget text.now (option_map (λ h. h.now) host.entry) secure result }
         ensures grammar { AnswersTarget text.now (option_map (λ h. h.now) host.entry) secure result }
+        ensures place { StandsInEndpoint text.now (option_map (λ h. h.now) host.entry) result }
     {
         read_target(alloc, text, host, secure)
     }

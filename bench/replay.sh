@@ -1,6 +1,7 @@
 #!/usr/bin/env bash
 # Instructions per `get` line of `cdnid replay`, counted under callgrind: a refresh, a document of one host, and 2,000
-# and 20,000 requests. It prints the instructions of each run, and the slope between the two, which is the cost of a line.
+# and 20,000 requests, each for a URL of 100 bytes whose query has five pieces. It prints the instructions of each run, and
+# the slope between the two, which is the cost of a line.
 # Usage: bench/replay.sh   (needs valgrind; builds the program by `rt run` where it is not built)
 set -eu
 cd "$(dirname "$0")/.."
@@ -12,7 +13,10 @@ trap 'rm -rf "$room"' EXIT
 script() {
   head -n 2 crates/cdnid/stdin
   local line; line=$(sed -n 3p crates/cdnid/stdin)
-  for ((i = 0; i < $1; i++)); do printf '%s/%06d.ts\n' "$line" "$i"; done
+  line=${line%http://*}
+  for ((i = 0; i < $1; i++)); do
+    printf '%shttp://v.example/films/seg/%06d.ts?session=0a1b2c3d&user=4711&quality=1080p&random=17&token=abcdef\n' "$line" "$i"
+  done
 }
 
 count() {

@@ -235,10 +235,7 @@ const LIMITS: [(&str, &str, &str, &str, &str, &[(u32, &str)]); 5] = [
         "",
         "",
         "]}}]}\n",
-        &[
-            (9998, "installed 1\n"),
-            (9999, "failed too-many 10001\n"),
-        ],
+        &[(9998, "installed 1\n"), (9999, "failed too-many 10001\n")],
     ),
     (
         "{\"hosts\":[{\"host\":\"a\",\"host-metadata\":{",
@@ -246,10 +243,7 @@ const LIMITS: [(&str, &str, &str, &str, &str, &[(u32, &str)]); 5] = [
         "",
         "}}]",
         "}}]}\n",
-        &[
-            (16, "installed 1\n"),
-            (17, "failed too-deep 17\n"),
-        ],
+        &[(16, "installed 1\n"), (17, "failed too-deep 17\n")],
     ),
     (
         "{\"hosts\":[{\"host\":\"a\",\"host-metadata\":{\"paths\":[{\"path-pattern\":{\"pattern\":\"",
@@ -287,10 +281,7 @@ const LIMITS: [(&str, &str, &str, &str, &str, &[(u32, &str)]); 5] = [
         "\"}}]}}]}\n0 0 get GET http/1.1 192.0.2.7 - - http://a/\n",
         &[
             (255, "installed 1\ndenied 1 503 no-source\n"),
-            (
-                256,
-                "installed 1\ndenied 1 403 unenforceable mi.grouping\n",
-            ),
+            (256, "installed 1\ndenied 1 403 unenforceable mi.grouping\n"),
         ],
     ),
 ];
@@ -299,15 +290,7 @@ const LIMITS: [(&str, &str, &str, &str, &str, &[(u32, &str)]); 5] = [
 fn limits_of_metadata(rt: HostRuntime) -> Result<(), Fail> {
     for (before, opening, middle, closing, after, counts) in LIMITS {
         for (count, answers) in counts {
-            let script = document(
-                rt.alloc(),
-                before,
-                opening,
-                *count,
-                middle,
-                closing,
-                after,
-            )?;
+            let script = document(rt.alloc(), before, opening, *count, middle, closing, after)?;
             let (status, written) = replayed(rt.alloc(), script.as_str(), &[], &[])?;
             assert_eq!(rt; status, Status::Done);
             let behind = written.as_slice().strip_prefix(b"due 1\n");

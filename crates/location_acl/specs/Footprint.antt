@@ -1,4 +1,4 @@
--- Footprints (RFC 8006, sections 4.3.3 to 4.3.8), and the places that they hold.
+-- Footprints (RFC 8006, sections 4.2.2.2 and 4.3.5 to 4.3.8), and the places that they hold.
 use Rattle.std.specs.Prelude.{◌≡◌, ℕ, ◌≤◌, ◌++◌, decimal, Bool, true, false, ◌==◌, ◌&&◌, nat_le, bytes_eq, codes, List, [], ◌∷◌, take, drop, Option, Some, None, option_map, if◌then◌else◌}
 use Rattle.std.specs.Char.{is_ascii_lowercase}
 use Rattle.listing.specs.Number.{number_of}

@@ -16,7 +16,7 @@ pub struct Place {
     pub country: Option<(u8, u8)>,
 }
 
-/// A set of places (RFC 8006, section 4.3.8): those in a block of addresses, in an autonomous system, or in a country.
+/// A set of places (RFC 8006, section 4.2.2.2): those in a block of addresses, in an autonomous system, or in a country.
 #[derive(Clone, Copy, Debug, PartialEq, Eq)]
 pub enum Footprint {
     V4(Block),
@@ -30,7 +30,7 @@ impl Footprint {
 
     /// Reads a value of a footprint of this type. `None` where the type is not `ipv4cidr`, `ipv6cidr`, `asn` or
     /// `countrycode`, or the value is not of the type: a block of IPv4 or IPv6 addresses, `as` and a decimal number of at
-    /// most 4294967295 without leading zeros, or two lower-case letters (RFC 8006, sections 4.3.3 to 4.3.6).
+    /// most 4294967295 without leading zeros, or two lower-case letters (RFC 8006, sections 4.3.5 to 4.3.8).
     pub fn read(kind: &[u8], value: &[u8]) -> Option<Footprint>
         ensures grammar { (footprint : Footprint) → (result ≡ Some footprint) ↔ IsFootprint kind.now value.now footprint }
         ensures value { result ≡ footprint_of kind.now value.now }

@@ -47,7 +47,7 @@ few_rules (Some rules) = if nat_lt (length rules) (2 ^ 32) then Some (Some rules
 
 -- ---- MI.LocationACL
 
--- a type of footprints (RFC 8006, section 7.3)
+-- a type of footprints (RFC 8006, section 7.2)
 abbrev pub is_footprint_type : List ℕ → Bool
 is_footprint_type kind = bytes_eq kind (codes "ipv4cidr") || bytes_eq kind (codes "ipv6cidr") || bytes_eq kind (codes "asn") || bytes_eq kind (codes "countrycode")
 

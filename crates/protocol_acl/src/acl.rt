@@ -7,7 +7,7 @@ ghost use Rattle.protocol_acl.specs.Acl.{names, decided};
 use listing::{Listing, Text};
 use std::marker::Model;
 
-/// Names of protocols, as `http/1.1` (RFC 8006, section 7.2).
+/// Names of protocols, as `http/1.1` (RFC 8006, section 7.3).
 pub type NameList = Listing<Text>;
 
 /// What is to be done where a delivery's protocol is one of these.

@@ -17,7 +17,7 @@ use Rattle.verdict.specs.Plan.{plan_of}
 use Rattle.verdict.specs.declared.judging.Verdict.{Verdict}
 use Rattle.verdict.specs.declared.judging.Verdict.TheVariants.{Allow, Deny}
 
--- the name of a delivery protocol (RFC 8006, section 7.2)
+-- the name of a delivery protocol (RFC 8006, section 7.3)
 abbrev pub protocol_name : Protocol → List ℕ
 protocol_name Http = codes "http/1.1"
 protocol_name Https = codes "https/1.1"

@@ -1,0 +1,62 @@
+#!/usr/bin/env bash
+# What reading metadata costs: a HostIndex of about 1 and about 8 MiB in each of three shapes, through `cdnid replay`. It prints
+# the instructions for each byte of the text, counted under callgrind as the slope between the two sizes, the seconds and
+# the peak of memory beyond that of a small document, as a multiple of the text.
+# Usage: bench/metadata.sh   (needs valgrind and python3; builds the program by `rt run` where it is not built)
+set -eu
+cd "$(dirname "$0")/.."
+program=crates/cdnid/out/cdnid
+[[ -x $program ]] || (cd crates/cdnid && rt run -- replay <stdin >/dev/null)
+room=$(mktemp -d)
+trap 'rm -rf "$room"' EXIT
+
+python3 - "$room" <<'PYTHON'
+import json, sys
+room = sys.argv[1]
+def generic(kind, value):
+    return {"generic-metadata-type": kind, "generic-metadata-value": value}
+def source(number):
+    return generic("MI.SourceMetadata", {"sources": [{"endpoints": [f"origin{number}.example:8080"], "protocol": "http/1.1"}]})
+def tree(levels):
+    return {"hosts": [{"host": "v.example", "host-metadata": levels}]}
+def paths(size):  # objects and patterns, padded so that 10,000 objects suffice
+    pad = "x" * 1400
+    return tree({"paths": [{"path-pattern": {"pattern": f"/{n}/*"}, "path-metadata": {"metadata": [source(n)], "note": pad}} for n in range(size // 1650)]})
+def blocks(size):  # one location list of many blocks
+    values = [f"10.{n // 256 % 256}.{n % 256}.0/24" for n in range(size // 17)]
+    return tree({"metadata": [generic("MI.LocationACL", {"locations": [{"footprints": [{"footprint-type": "ipv4cidr", "footprint-value": values}]}]})]})
+def names(size):  # many long names
+    return tree({"metadata": [generic("MI.Cache", {"ignore-query-string": [f"{n:064d}" for n in range(size // 67)]})]})
+for shape in (paths, blocks, names):
+    for label, size in (("none", 0), ("few", 1 << 20), ("many", 8300000)):
+        text = json.dumps(shape(size), separators=(",", ":"))
+        assert len(text) <= 8388608
+        with open(f"{room}/{shape.__name__}.{label}", "w") as script:
+            script.write("0 0 refresh\n0 0 meta 1 http://up.example/i " + text + "\n")
+PYTHON
+
+instructions() {
+  valgrind --tool=callgrind --callgrind-out-file="$room/out" "$program" replay <"$1" >"$room/answers" 2>"$room/notes"
+  [[ $(tail -n 1 "$room/answers") == "installed 1" ]] || { echo "the metadata was not installed" >&2; exit 1; }
+  sed -n 's/^summary: //p' "$room/out"
+}
+
+# the seconds and the peak of memory, in kB
+run() {
+  python3 - "$program" "$1" <<'PYTHON'
+import resource, subprocess, sys
+with open(sys.argv[2]) as script:
+    subprocess.run([sys.argv[1], "replay"], stdin=script, stdout=subprocess.DEVNULL, check=True)
+used = resource.getrusage(resource.RUSAGE_CHILDREN)
+print(f"{used.ru_utime + used.ru_stime:.2f} {used.ru_maxrss}")
+PYTHON
+}
+
+for shape in paths blocks names; do
+  few=$(wc -c <"$room/$shape.few") many=$(wc -c <"$room/$shape.many")
+  slope=$((($(instructions "$room/$shape.many") - $(instructions "$room/$shape.few")) / (many - few)))
+  read -r _ least < <(run "$room/$shape.none")
+  read -r seconds most < <(run "$room/$shape.many")
+  awk -v shape="$shape" -v bytes="$many" -v slope="$slope" -v seconds="$seconds" -v grown="$((most - least))" \
+    'BEGIN { printf "%s, %d bytes: %d instructions a byte, %s s, %.1f times the text in memory\n", shape, bytes, slope, seconds, grown * 1024 / bytes }'
+done

@@ -1,11 +1,11 @@
 //! Cache keys: what of a target tells one kept object from another.
 
-ghost use Rattle.std.specs.Prelude.{◌≡◌, ◌==◌, ◌↔◌, ◌≤◌, ◌+◌, ◌<◌, ◌∷◌, ◌++◌, [], ℕ, OnOk, if◌then◌else◌, length, filter, IfOk, IfSome, IsTrue, true, not, bytes_eq, Some, None};
+ghost use Rattle.std.specs.Prelude.{◌≡◌, ◌==◌, ◌↔◌, ◌≤◌, ◌+◌, ◌<◌, ◌∷◌, ◌++◌, OnOk, if◌then◌else◌, length, filter, IfOk, IfSome, IsTrue, true, bytes_eq, Some, None};
 ghost use Rattle.std.specs.List.{position_or_len, list_any};
 ghost use Rattle.std.specs.Str.{str_to_ascii_lowercase};
-ghost use Rattle.std.specs.Option.{option_map, option_map_or};
+ghost use Rattle.std.specs.Option.{option_map};
 ghost use Rattle.cdni_base.specs.Target.{query_text};
-ghost use Rattle.cdni_base.specs.Key.{KeyParts, pieces_of, is_kept, joined, kept_query, key_of, key_text};
+ghost use Rattle.cdni_base.specs.Key.{pieces_of, is_kept, joined, kept_query, key_of, key_text};
 
 use crate::endpoint::HostName;
 use crate::target::Target;

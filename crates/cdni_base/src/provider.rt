@@ -1,9 +1,8 @@
 //! The ids of CDN providers.
 
-ghost use Rattle.std.specs.Prelude.{◌≡◌, ◌+◌, ◌≤◌, ◌==◌, IfNone, length, drop, slice_index, IsTrue};
+ghost use Rattle.std.specs.Prelude.{◌≡◌, ◌+◌, ◌≤◌, ◌==◌, length, slice_index, IsTrue};
 ghost use Rattle.std.specs.List.{prefix_len};
 ghost use Rattle.std.specs.Char.{is_ascii_digit};
-ghost use Rattle.cdni_base.specs.Endpoint.{is_name_byte};
 ghost use Rattle.cdni_base.specs.Provider.{as_length, wrong_qualifier, wrong_number, wrong_place, ReadsProvider, AnswersProvider, ProviderStands};
 
 use crate::endpoint::name_length;

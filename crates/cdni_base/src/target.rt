@@ -1,8 +1,8 @@
 //! What a request asks for.
 
-ghost use Rattle.std.specs.Prelude.{◌≡◌, ◌≤◌, ◌+◌, ℕ, length, take, drop, slice_index, IfOk, IfSome, IfNone, IsTrue, option_map};
+ghost use Rattle.std.specs.Prelude.{◌≡◌, ◌≤◌, length, drop, IfOk, IfSome, IsTrue, option_map};
 ghost use Rattle.std.specs.List.{prefix_len};
-ghost use Rattle.cdni_base.specs.Target.{begins_with, scheme_of, scheme_length, is_https, is_before_path, is_unreserved, is_sub_delimiter, is_plain, is_taken, wrong_byte, first_wrong, first_wrong_of_path, path_or_root, port_or_default, target_at, target_after, absolute_target, url_text, Reads, ReadsTarget};
+ghost use Rattle.cdni_base.specs.Target.{begins_with, scheme_of, scheme_length, is_before_path, is_unreserved, is_sub_delimiter, is_plain, is_taken, wrong_byte, first_wrong, first_wrong_of_path, path_or_root, port_or_default, target_at, target_after, absolute_target, url_text, Reads, ReadsTarget};
 ghost use Rattle.cdni_base.specs.Endpoint.{endpoint_of};
 ghost use Rattle.cdni_base.specs.Fronts.{StandsInEndpoint};
 ghost use Rattle.cdni_base.specs.Grammar.{AnswersTarget};

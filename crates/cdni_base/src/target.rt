@@ -12,7 +12,7 @@ use crate::url::url_of;
 use listing::{Listing, Text, cut_at};
 use std::alloc::{AllocError, Global};
 
-/// The delivery protocol of a request, as RFC 8006, section 7.2, names it.
+/// The delivery protocol of a request, as RFC 8006, section 7.3, names it.
 #[derive(Clone, Copy, Debug, PartialEq, Eq)]
 pub enum Protocol {
     /// `http/1.1`

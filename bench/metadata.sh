@@ -1,5 +1,5 @@
 #!/usr/bin/env bash
-# What reading metadata costs: a HostIndex of about 1 and about 8 MiB in each of three shapes, through `cdnid replay`. It prints
+# What reading metadata costs: a HostIndex of about 1 and about 8 MiB in each of four shapes, through `cdnid replay`. It prints
 # the instructions for each byte of the text, counted under callgrind as the slope between the two sizes, the seconds and
 # the peak of memory beyond that of a small document, as a multiple of the text.
 # Usage: bench/metadata.sh   (needs valgrind and python3; builds the program by `rt run` where it is not built)
@@ -20,14 +20,16 @@ def source(number):
 def tree(levels):
     return {"hosts": [{"host": "v.example", "host-metadata": levels}]}
 def paths(size):  # objects and patterns, padded so that 10,000 objects suffice
-    pad = "x" * 1400
-    return tree({"paths": [{"path-pattern": {"pattern": f"/{n}/*"}, "path-metadata": {"metadata": [source(n)], "note": pad}} for n in range(size // 1650)]})
+    pad = "x" * 1500
+    return tree({"paths": [{"path-pattern": {"pattern": f"/{n}/*"}, "path-metadata": {"metadata": [source(n)], "note": pad}} for n in range(size // 1760)]})
 def blocks(size):  # one location list of many blocks
     values = [f"10.{n // 256 % 256}.{n % 256}.0/24" for n in range(size // 17)]
     return tree({"metadata": [generic("MI.LocationACL", {"locations": [{"footprints": [{"footprint-type": "ipv4cidr", "footprint-value": values}]}]})]})
 def names(size):  # many long names
     return tree({"metadata": [generic("MI.Cache", {"ignore-query-string": [f"{n:064d}" for n in range(size // 67)]})]})
-for shape in (paths, blocks, names):
+def windows(size):  # one time list of many windows
+    return tree({"metadata": [generic("MI.TimeWindowACL", {"times": [{"windows": [{"start": 1700000000 + n, "end": 1700000100 + n} for n in range(size // 38)]}]})]})
+for shape in (paths, blocks, names, windows):
     for label, size in (("none", 0), ("few", 1 << 20), ("many", 8300000)):
         text = json.dumps(shape(size), separators=(",", ":"))
         assert len(text) <= 8388608
@@ -52,9 +54,11 @@ print(f"{used.ru_utime + used.ru_stime:.2f} {used.ru_maxrss}")
 PYTHON
 }
 
-for shape in paths blocks names; do
+for shape in paths blocks names windows; do
   few=$(wc -c <"$room/$shape.few") many=$(wc -c <"$room/$shape.many")
-  slope=$((($(instructions "$room/$shape.many") - $(instructions "$room/$shape.few")) / (many - few)))
+  more=$(instructions "$room/$shape.many")
+  less=$(instructions "$room/$shape.few")
+  slope=$(((more - less) / (many - few)))
   read -r _ least < <(run "$room/$shape.none")
   read -r seconds most < <(run "$room/$shape.many")
   awk -v shape="$shape" -v bytes="$many" -v slope="$slope" -v seconds="$seconds" -v grown="$((most - least))" \

@@ -228,7 +228,7 @@ fn document(
 }
 
 // before, opening, middle, closing, after; and the answers behind `due 1` for each count
-const LIMITS: [(&str, &str, &str, &str, &str, &[(u32, &str)]); 5] = [
+const LIMITS: [(&str, &str, &str, &str, &str, &[(u32, &str)]); 6] = [
     (
         "{\"hosts\":[{\"host\":\"a\",\"host-metadata\":{\"metadata\":[{\"generic-metadata-type\":\"MI.X\",\"generic-metadata-value\":0}",
         ",{\"generic-metadata-type\":\"MI.X\",\"generic-metadata-value\":0}",
@@ -282,6 +282,23 @@ const LIMITS: [(&str, &str, &str, &str, &str, &[(u32, &str)]); 5] = [
         &[
             (255, "installed 1\ndenied 1 503 no-source\n"),
             (256, "installed 1\ndenied 1 403 unenforceable mi.grouping\n"),
+        ],
+    ),
+    (
+        "{\"hosts\":[{\"host\":\"a\",\"host-metadata\":{\"metadata\":[{\"generic-metadata-type\":\"MI.SourceMetadata\",\"generic-metadata-value\":{\"sources\":[{\"protocol\":\"http/1.1\",\"endpoints\":[\"o\"",
+        ",\"o\"",
+        "",
+        "",
+        "]}]}}]}}]}\n0 0 get GET http/1.1 192.0.2.7 - - http://a/\n",
+        &[
+            (
+                15,
+                "installed 1\nmiss 1 1 o:80 o:80 o:80 o:80 o:80 o:80 o:80 o:80 o:80 o:80 o:80 o:80 o:80 o:80 o:80 o:80\n",
+            ),
+            (
+                16,
+                "installed 1\ndenied 1 403 unenforceable mi.sourcemetadata\n",
+            ),
         ],
     ),
 ];

@@ -204,22 +204,20 @@ fn notes_of_endings(rt: HostRuntime) -> Result<(), Fail> {
     Ok(())
 }
 
-// a refresh, and a document of `opening` and `closing` so many times around `middle`, between `before` and `after`
+// a refresh, and a document of `opening` and then `closing` so many times between `before` and `after`
 fn document(
     alloc: Global,
     before: &str,
     opening: &str,
-    count: u32,
-    middle: &str,
     closing: &str,
     after: &str,
+    count: u32,
 ) -> Result<String, Fail> {
     let mut script = String::from_str(alloc, "0 0 refresh\n0 0 meta 1 http://up.example/i ")?;
     script.push_str(before)?;
     for _ in 0..count {
         script.push_str(opening)?;
     }
-    script.push_str(middle)?;
     for _ in 0..count {
         script.push_str(closing)?;
     }
@@ -227,92 +225,125 @@ fn document(
     Ok(script)
 }
 
-// before, opening, middle, closing, after; and the answers behind `due 1` for each count
-const LIMITS: [(&str, &str, &str, &str, &str, &[(u32, &str)]); 6] = [
+// what is limited; before, opening, closing, after; and how often opening and closing stand, with the answers
+const LIMITS: [(&str, &str, &str, &str, &str, u32, &str); 12] = [
     (
+        "objects",
         "{\"hosts\":[{\"host\":\"a\",\"host-metadata\":{\"metadata\":[{\"generic-metadata-type\":\"MI.X\",\"generic-metadata-value\":0}",
         ",{\"generic-metadata-type\":\"MI.X\",\"generic-metadata-value\":0}",
         "",
+        "]}}]}\n",
+        9998,
+        "due 1\ninstalled 1\n",
+    ),
+    (
+        "objects",
+        "{\"hosts\":[{\"host\":\"a\",\"host-metadata\":{\"metadata\":[{\"generic-metadata-type\":\"MI.X\",\"generic-metadata-value\":0}",
+        ",{\"generic-metadata-type\":\"MI.X\",\"generic-metadata-value\":0}",
         "",
         "]}}]}\n",
-        &[(9998, "installed 1\n"), (9999, "failed too-many 10001\n")],
+        9999,
+        "due 1\nfailed too-many 10001\n",
     ),
     (
+        "levels",
         "{\"hosts\":[{\"host\":\"a\",\"host-metadata\":{",
         "\"paths\":[{\"path-pattern\":{\"pattern\":\"/*\"},\"path-metadata\":{",
-        "",
         "}}]",
         "}}]}\n",
-        &[(16, "installed 1\n"), (17, "failed too-deep 17\n")],
+        16,
+        "due 1\ninstalled 1\n",
     ),
     (
+        "levels",
+        "{\"hosts\":[{\"host\":\"a\",\"host-metadata\":{",
+        "\"paths\":[{\"path-pattern\":{\"pattern\":\"/*\"},\"path-metadata\":{",
+        "}}]",
+        "}}]}\n",
+        17,
+        "due 1\nfailed too-deep 17\n",
+    ),
+    (
+        "bytes of a pattern",
         "{\"hosts\":[{\"host\":\"a\",\"host-metadata\":{\"paths\":[{\"path-pattern\":{\"pattern\":\"",
         "/",
         "",
-        "",
         "\"},\"path-metadata\":{}}]}}]}\n",
-        &[
-            (1024, "installed 1\n"),
-            (
-                1025,
-                "failed field /hosts/0/host-metadata/paths/0/path-pattern/pattern out-of-range\n",
-            ),
-        ],
+        1024,
+        "due 1\ninstalled 1\n",
     ),
     (
+        "bytes of a pattern",
+        "{\"hosts\":[{\"host\":\"a\",\"host-metadata\":{\"paths\":[{\"path-pattern\":{\"pattern\":\"",
+        "/",
+        "",
+        "\"},\"path-metadata\":{}}]}}]}\n",
+        1025,
+        "due 1\nfailed field /hosts/0/host-metadata/paths/0/path-pattern/pattern out-of-range\n",
+    ),
+    (
+        "bytes of a type",
         "{\"hosts\":[{\"host\":\"a\",\"host-metadata\":{\"metadata\":[{\"generic-metadata-type\":\"",
         "T",
         "",
-        "",
         "\",\"generic-metadata-value\":0}]}}]}\n",
-        &[
-            (127, "installed 1\n"),
-            (
-                128,
-                "failed field /hosts/0/host-metadata/metadata/0/generic-metadata-type out-of-range\n",
-            ),
-        ],
+        127,
+        "due 1\ninstalled 1\n",
     ),
     (
+        "bytes of a type",
+        "{\"hosts\":[{\"host\":\"a\",\"host-metadata\":{\"metadata\":[{\"generic-metadata-type\":\"",
+        "T",
+        "",
+        "\",\"generic-metadata-value\":0}]}}]}\n",
+        128,
+        "due 1\nfailed field /hosts/0/host-metadata/metadata/0/generic-metadata-type out-of-range\n",
+    ),
+    (
+        "bytes of a ccid",
         "{\"hosts\":[{\"host\":\"a\",\"host-metadata\":{\"metadata\":[{\"generic-metadata-type\":\"MI.Grouping\",\"generic-metadata-value\":{\"ccid\":\"",
         "c",
         "",
-        "",
         "\"}}]}}]}\n0 0 get GET http/1.1 192.0.2.7 - - http://a/\n",
-        &[
-            (255, "installed 1\ndenied 1 503 no-source\n"),
-            (256, "installed 1\ndenied 1 403 unenforceable mi.grouping\n"),
-        ],
+        255,
+        "due 1\ninstalled 1\ndenied 1 503 no-source\n",
     ),
     (
+        "bytes of a ccid",
+        "{\"hosts\":[{\"host\":\"a\",\"host-metadata\":{\"metadata\":[{\"generic-metadata-type\":\"MI.Grouping\",\"generic-metadata-value\":{\"ccid\":\"",
+        "c",
+        "",
+        "\"}}]}}]}\n0 0 get GET http/1.1 192.0.2.7 - - http://a/\n",
+        256,
+        "due 1\ninstalled 1\ndenied 1 403 unenforceable mi.grouping\n",
+    ),
+    (
+        "endpoints",
         "{\"hosts\":[{\"host\":\"a\",\"host-metadata\":{\"metadata\":[{\"generic-metadata-type\":\"MI.SourceMetadata\",\"generic-metadata-value\":{\"sources\":[{\"protocol\":\"http/1.1\",\"endpoints\":[\"o\"",
         ",\"o\"",
         "",
+        "]}]}}]}}]}\n0 0 get GET http/1.1 192.0.2.7 - - http://a/\n",
+        15,
+        "due 1\ninstalled 1\nmiss 1 1 o:80 o:80 o:80 o:80 o:80 o:80 o:80 o:80 o:80 o:80 o:80 o:80 o:80 o:80 o:80 o:80\n",
+    ),
+    (
+        "endpoints",
+        "{\"hosts\":[{\"host\":\"a\",\"host-metadata\":{\"metadata\":[{\"generic-metadata-type\":\"MI.SourceMetadata\",\"generic-metadata-value\":{\"sources\":[{\"protocol\":\"http/1.1\",\"endpoints\":[\"o\"",
+        ",\"o\"",
         "",
         "]}]}}]}}]}\n0 0 get GET http/1.1 192.0.2.7 - - http://a/\n",
-        &[
-            (
-                15,
-                "installed 1\nmiss 1 1 o:80 o:80 o:80 o:80 o:80 o:80 o:80 o:80 o:80 o:80 o:80 o:80 o:80 o:80 o:80 o:80\n",
-            ),
-            (
-                16,
-                "installed 1\ndenied 1 403 unenforceable mi.sourcemetadata\n",
-            ),
-        ],
+        16,
+        "due 1\ninstalled 1\ndenied 1 403 unenforceable mi.sourcemetadata\n",
     ),
 ];
 
 #[test]
 fn limits_of_metadata(rt: HostRuntime) -> Result<(), Fail> {
-    for (before, opening, middle, closing, after, counts) in LIMITS {
-        for (count, answers) in counts {
-            let script = document(rt.alloc(), before, opening, *count, middle, closing, after)?;
-            let (status, written) = replayed(rt.alloc(), script.as_str(), &[], &[])?;
-            assert_eq!(rt; status, Status::Done);
-            let behind = written.as_slice().strip_prefix(b"due 1\n");
-            assert_eq!(rt; behind, Some(answers.as_bytes()));
-        }
+    for (name, before, opening, closing, after, count, answers) in LIMITS {
+        let script = document(rt.alloc(), before, opening, closing, after, count)?;
+        let (status, written) = replayed(rt.alloc(), script.as_str(), &[], &[])?;
+        assert_eq!(rt; status, Status::Done, "{name}");
+        assert_eq!(rt; written.as_slice(), answers.as_bytes(), "{name}");
     }
     Ok(())
 }

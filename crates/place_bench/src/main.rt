@@ -1,7 +1,8 @@
 //! Looks up the places of addresses, so that the instructions of a look-up can be counted (bench/places.sh), and prints
 //! how many of them have a known place. Arguments: the number of lines of the place file, how many addresses are looked
-//! up, whether by the table (0) or by the plain scan (1), and whether they are IPv4 (0) or IPv6 addresses (1). Without
-//! arguments the table and the scan are compared on 2,000 lines.
+//! up, whether by the table (0), by the plain scan (1), or by both, and then how many have the same place by both is
+//! printed (2), and whether they are IPv4 (0) or IPv6 addresses (1). Without arguments the table and the scan are compared on
+//! 2,000 lines.
 #![tactic(auto)]
 
 use anyhow::{Context, bail};
@@ -97,6 +98,19 @@ fn known(table: &PlaceTable, count: u32, plainly: bool, six: bool) -> u32 {
     known
 }
 
+// How many of so many addresses have the same place by the table and by the plain scan.
+fn agreeing(table: &PlaceTable, count: u32, six: bool) -> u32 {
+    let mut numbers = Sequence::new(7);
+    let mut agreeing = 0u32;
+    for _ in 0..count {
+        let ip = address_of(&mut numbers, six);
+        if plain::place_of(table.lines(), ip) == table.place_of(ip) {
+            agreeing = agreeing.saturating_add(1);
+        }
+    }
+    agreeing
+}
+
 fn table_of(alloc: Global, lines: u32) -> anyhow::Result<PlaceTable> {
     let text = file_of(alloc, lines)?;
     let Ok(table) = PlaceTable::read(alloc, &text) else {
@@ -112,17 +126,21 @@ fn main(rt: HostRuntime) -> anyhow::Result<()> {
     for arg in args.skip(1) {
         numbers.push(arg.parse::<u32>().context("an argument is a number")?)?;
     }
-    if let [lines, count, plainly, six] = numbers.as_slice() {
+    if let [lines, count, way, six] = numbers.as_slice() {
         let table = table_of(alloc, *lines)?;
-        let known = known(&table, *count, *plainly == 1, *six == 1);
-        println!(rt; "{known}")?;
+        let counted = if *way == 2 {
+            agreeing(&table, *count, *six == 1)
+        } else {
+            known(&table, *count, *way == 1, *six == 1)
+        };
+        println!(rt; "{counted}")?;
         return Ok(());
     }
     let table = table_of(alloc, 2000)?;
     for six in [false, true] {
-        let found = known(&table, 300, false, six);
-        let scanned = known(&table, 300, true, six);
-        println!(rt; "300 addresses: {found} known by the table, {scanned} by the scan")?;
+        let known = known(&table, 300, false, six);
+        let agreeing = agreeing(&table, 300, six);
+        println!(rt; "300 addresses: {known} known, {agreeing} with the same place by the scan")?;
     }
     Ok(())
 }

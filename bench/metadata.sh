@@ -1,7 +1,7 @@
 #!/usr/bin/env bash
 # What reading metadata costs: a HostIndex of about 1 and about 8 MiB in each of four shapes, through `cdnid replay`. It prints
 # the instructions for each byte of the text, counted under callgrind as the slope between the two sizes, the seconds and
-# the peak of memory beyond that of a small document, as a multiple of the text.
+# the peak of memory beyond that of a small document, as a multiple of the text, and how much of it the JSON value alone takes.
 # Usage: bench/metadata.sh   (needs valgrind and python3; builds the program by `rt run` where it is not built)
 set -eu
 cd "$(dirname "$0")/.."
@@ -61,6 +61,8 @@ for shape in paths blocks names windows; do
   slope=$(((more - less) / (many - few)))
   read -r _ least < <(run "$room/$shape.none")
   read -r seconds most < <(run "$room/$shape.many")
-  awk -v shape="$shape" -v bytes="$many" -v slope="$slope" -v seconds="$seconds" -v grown="$((most - least))" \
-    'BEGIN { printf "%s, %d bytes: %d instructions a byte, %s s, %.1f times the text in memory\n", shape, bytes, slope, seconds, grown * 1024 / bytes }'
+  sed 's/MI\.[A-Za-z]*/MI.X/g' "$room/$shape.many" >"$room/$shape.other"  # nothing is understood, so nothing is kept beside the JSON value
+  read -r _ value < <(run "$room/$shape.other")
+  awk -v shape="$shape" -v bytes="$many" -v slope="$slope" -v seconds="$seconds" -v grown="$((most - least))" -v value="$((value - least))" \
+    'BEGIN { printf "%s, %d bytes: %d instructions a byte, %s s, %.1f times the text in memory, of which the JSON value takes %.1f\n", shape, bytes, slope, seconds, grown * 1024 / bytes, value * 1024 / bytes }'
 done

@@ -3,16 +3,12 @@
 # different numbers of entries that stay. What is asked for is at most 150, whatever is stored.
 set -euo pipefail
 cd "$(dirname "$0")/../crates/journal_bench"
+source ../../bench/counting.sh
 rt run > /dev/null 2>&1
 
-# The instructions of a run: how many entries stay, how many go through.
-instructions() {
-    valgrind --tool=callgrind --callgrind-out-file=/dev/null out/journal_bench "$@" 2>&1 > /dev/null |
-        awk '/Collected/ { print $4 }'
-}
-
+# The arguments of the program: how many entries stay, how many go through.
 for stored in 0 100 10000 1000000; do
-    more=$(instructions "$stored" 20000)
-    less=$(instructions "$stored" 10000)
+    more=$(instructions out/journal_bench "$stored" 20000)
+    less=$(instructions out/journal_bench "$stored" 10000)
     echo "$stored entries stored: $(((more - less) / 10000)) instructions for a push and a retirement"
 done

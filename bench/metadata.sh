@@ -4,11 +4,7 @@
 # the peak of memory beyond that of a small document, as a multiple of the text, and how much of it the JSON value alone takes.
 # Usage: bench/metadata.sh   (needs valgrind and python3; builds the program by `rt run` where it is not built)
 set -eu
-cd "$(dirname "$0")/.."
-program=crates/cdnid/out/cdnid
-[[ -x $program ]] || (cd crates/cdnid && rt run -- replay <stdin >/dev/null)
-room=$(mktemp -d)
-trap 'rm -rf "$room"' EXIT
+source "$(dirname "$0")/replaying.sh"
 
 python3 - "$room" <<'PYTHON'
 import json, sys
@@ -38,9 +34,8 @@ for shape in (paths, blocks, names, windows):
 PYTHON
 
 instructions() {
-  valgrind --tool=callgrind --callgrind-out-file="$room/out" "$program" replay <"$1" >"$room/answers" 2>"$room/notes"
+  replay_instructions "$1"
   [[ $(tail -n 1 "$room/answers") == "installed 1" ]] || { echo "the metadata was not installed" >&2; exit 1; }
-  sed -n 's/^summary: //p' "$room/out"
 }
 
 # the seconds and the peak of memory, in kB

@@ -3,19 +3,15 @@
 # callgrind. What is asked for is at most 60 a unit.
 set -euo pipefail
 cd "$(dirname "$0")/../crates/pattern_bench"
+source ../../bench/counting.sh
 rt run > /dev/null 2>&1
 
-# The instructions of a run: the number of a pattern, the length of the text, how often it is matched.
-instructions() {
-    valgrind --tool=callgrind --callgrind-out-file=/dev/null out/pattern_bench "$@" 2>&1 > /dev/null |
-        awk '/Collected/ { print $4 }'
-}
-
-# The instructions of one match: the difference of 200 matches and 100 matches.
+# The instructions of one match: the difference of 200 matches and 100 matches. Arguments: the number of a pattern,
+# and the length of the text.
 one_match() {
     local more less
-    more=$(instructions "$1" "$2" 200)
-    less=$(instructions "$1" "$2" 100)
+    more=$(instructions out/pattern_bench "$1" "$2" 200)
+    less=$(instructions out/pattern_bench "$1" "$2" 100)
     echo $(((more - less) / 100))
 }
 

@@ -4,20 +4,16 @@
 # each has to have the same place by the table and by the scan.
 set -euo pipefail
 cd "$(dirname "$0")/../crates/place_bench"
+source ../../bench/counting.sh
 rt run > /dev/null 2>&1
 
-# The instructions of a run: how many lines, how many addresses, by the table (0) or the scan (1), IPv4 (0) or IPv6 (1).
-instructions() {
-    valgrind --tool=callgrind --callgrind-out-file=/dev/null out/place_bench "$@" 2>&1 > /dev/null |
-        awk '/Collected/ { print $4 }'
-}
-
-# The instructions of one look-up, as the difference of two runs that look up this many addresses and half of them.
+# The instructions of one look-up, as the difference of two runs that look up this many addresses and half of them. Arguments:
+# how many addresses, by the table (0) or the scan (1), IPv4 (0) or IPv6 (1).
 one_lookup() {
     local count=$1 more less
     shift
-    more=$(instructions 100000 "$count" "$@")
-    less=$(instructions 100000 $((count / 2)) "$@")
+    more=$(instructions out/place_bench 100000 "$count" "$@")
+    less=$(instructions out/place_bench 100000 $((count / 2)) "$@")
     echo $(((more - less) / (count / 2)))
 }
 

@@ -4,11 +4,7 @@
 # the slope between the two, which is the cost of a line.
 # Usage: bench/replay.sh   (needs valgrind; builds the program by `rt run` where it is not built)
 set -eu
-cd "$(dirname "$0")/.."
-program=crates/cdnid/out/cdnid
-[[ -x $program ]] || (cd crates/cdnid && rt run -- replay <stdin >/dev/null)
-room=$(mktemp -d)
-trap 'rm -rf "$room"' EXIT
+source "$(dirname "$0")/replaying.sh"
 
 script() {
   head -n 2 crates/cdnid/stdin
@@ -21,9 +17,8 @@ script() {
 
 count() {
   script "$1" >"$room/$1.script"
-  valgrind --tool=callgrind --callgrind-out-file="$room/$1.out" "$program" replay <"$room/$1.script" >"$room/$1.answers" 2>"$room/$1.notes"
-  [[ $(wc -l <"$room/$1.answers") == $(($1 + 2)) ]] || { echo "a line has no answer" >&2; exit 1; }
-  sed -n 's/^summary: //p' "$room/$1.out"
+  replay_instructions "$room/$1.script"
+  [[ $(wc -l <"$room/answers") == $(($1 + 2)) ]] || { echo "a line has no answer" >&2; exit 1; }
 }
 
 few=$(count 2000)

@@ -1,1 +1,2 @@
+mod BorrowedData
 pub mod Texts

@@ -1,3 +1,4 @@
+pub mod Borrowed
 pub mod Field
 pub mod Path
 pub mod Text

@@ -5,8 +5,6 @@ use Rattle.std.specs.declared.option.Option.{Option}
 use Rattle.std.specs.declared.result.Result.{Result}
 use Rattle.serde_json.specs.Data.{Data}
 use Rattle.serde_json.specs.Read.{read}
-use Rattle.serde_json.specs.View.{view}
-use Rattle.serde_json.specs.declared.value.Value.{Value}
 use Rattle.json_read.specs.declared.fault.ParseFault.{ParseFault}
 use Rattle.json_read.specs.declared.fault.ParseFault.TheVariants.{NotJson, Memory}
 
@@ -14,8 +12,8 @@ use Rattle.json_read.specs.declared.fault.ParseFault.TheVariants.{NotJson, Memor
 unfoldable pub json_of : List ℕ → Option Data
 json_of bytes = if is_utf8 bytes then read bytes else None
 
--- a reader of JSON texts answers the value, that there is none, or that it found no memory
-abbrev pub Parses : List ℕ → Result Value ParseFault → Type 0
-Parses bytes (Ok value) = json_of bytes ≡ Some (view value)
-Parses bytes (Err NotJson) = json_of bytes ≡ None
-Parses bytes (Err Memory) = Unit {0}
+-- a reader of JSON texts answers the value, as it is seen, that there is none, or that it found no memory
+abbrev pub Parses : {A : Type 0} → (A → Data) → List ℕ → Result A ParseFault → Type 0
+Parses seen bytes (Ok value) = json_of bytes ≡ Some (seen value)
+Parses seen bytes (Err NotJson) = json_of bytes ≡ None
+Parses seen bytes (Err Memory) = Unit {0}

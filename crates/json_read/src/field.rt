@@ -1,13 +1,13 @@
 //! Fields of a JSON value.
 
-ghost use Rattle.std.specs.Prelude.{◌≡◌, option_map, string_bytes};
-ghost use Rattle.serde_json.specs.View.{view, items_view};
+ghost use Rattle.std.specs.Prelude.{◌≡◌, map, option_map, string_bytes};
+ghost use Rattle.serde_json.specs.View.{items_of as listed};
 ghost use Rattle.json_read.specs.Path.{IsName};
 ghost use Rattle.json_read.specs.Field.{Gives, IsFaultAt, needed, looked_up, text_of, items_of, flag_of, whole_of};
 
 use crate::fault::{FieldCause, FieldFault, JsonFault};
 use crate::path::JsonPath;
-use serde_json::Value;
+use crate::value::JsonValue;
 use std::alloc::Global;
 
 // the fault at this place
@@ -24,14 +24,14 @@ fn fault_at(alloc: Global, path: &JsonPath, cause: FieldCause) -> JsonFault
 ///
 /// # Errors
 /// `WrongKind` at `path` where the value is no object, `Missing` at the member where there is none, or want of memory.
-pub fn need<'a>(
+pub fn need<'a, V: JsonValue>(
     alloc: Global,
-    value: &'a Value,
+    value: &'a V,
     path: &JsonPath,
     name: &str,
-) -> Result<&'a Value, JsonFault>
+) -> Result<&'a V, JsonFault>
     requires { IsName name.now }
-    ensures { Gives (λ v. view v.now) result (needed path.now name.now (view value.now)) }
+    ensures { Gives (λ v. V.seen v.now) result (needed path.now name.now (V.seen value.now)) }
 {
     match maybe(alloc, value, path, name)? {
         Some(member) => Ok(member),
@@ -43,13 +43,13 @@ pub fn need<'a>(
 ///
 /// # Errors
 /// `WrongKind` at `path` where the value is no object, or want of memory.
-pub fn maybe<'a>(
+pub fn maybe<'a, V: JsonValue>(
     alloc: Global,
-    value: &'a Value,
+    value: &'a V,
     path: &JsonPath,
     name: &str,
-) -> Result<Option<&'a Value>, JsonFault>
-    ensures { Gives (λ found. option_map (λ v. view v.now) found) result (looked_up path.now name.now (view value.now)) }
+) -> Result<Option<&'a V>, JsonFault>
+    ensures { Gives (λ found. option_map (λ v. V.seen v.now) found) result (looked_up path.now name.now (V.seen value.now)) }
 {
     if !value.is_object() {
         return Err(fault_at(alloc, path, FieldCause::WrongKind));
@@ -61,8 +61,8 @@ pub fn maybe<'a>(
 ///
 /// # Errors
 /// `WrongKind` at `path` where the value is no text, or want of memory.
-pub fn text_at(alloc: Global, value: &Value, path: &JsonPath) -> Result<String, JsonFault>
-    ensures { Gives (λ text. string_bytes text) result (text_of path.now (view value.now)) }
+pub fn text_at<V: JsonValue>(alloc: Global, value: &V, path: &JsonPath) -> Result<String, JsonFault>
+    ensures { Gives (λ text. string_bytes text) result (text_of path.now (V.seen value.now)) }
 {
     match value.as_str() {
         Some(text) => Ok(String::from_str(alloc, text)?),
@@ -74,15 +74,15 @@ pub fn text_at(alloc: Global, value: &Value, path: &JsonPath) -> Result<String, 
 ///
 /// # Errors
 /// `WrongKind` at `path` where the value is no list, or want of memory.
-pub fn list_at<'a>(
+pub fn list_at<'a, V: JsonValue>(
     alloc: Global,
-    value: &'a Value,
+    value: &'a V,
     path: &JsonPath,
-) -> Result<&'a [Value], JsonFault>
-    ensures { Gives (λ items. items_view items.now) result (items_of path.now (view value.now)) }
+) -> Result<&'a [V], JsonFault>
+    ensures { Gives (λ items. listed (map V.seen items.now)) result (items_of path.now (V.seen value.now)) }
 {
     match value.as_array() {
-        Some(items) => Ok(items.as_slice()),
+        Some(items) => Ok(items),
         None => Err(fault_at(alloc, path, FieldCause::WrongKind)),
     }
 }
@@ -91,8 +91,8 @@ pub fn list_at<'a>(
 ///
 /// # Errors
 /// `WrongKind` at `path` where the value is neither true nor false, or want of memory.
-pub fn flag_at(alloc: Global, value: &Value, path: &JsonPath) -> Result<bool, JsonFault>
-    ensures { Gives (λ flag. flag) result (flag_of path.now (view value.now)) }
+pub fn flag_at<V: JsonValue>(alloc: Global, value: &V, path: &JsonPath) -> Result<bool, JsonFault>
+    ensures { Gives (λ flag. flag) result (flag_of path.now (V.seen value.now)) }
 {
     match value.as_bool() {
         Some(flag) => Ok(flag),
@@ -105,8 +105,8 @@ pub fn flag_at(alloc: Global, value: &Value, path: &JsonPath) -> Result<bool, Js
 /// # Errors
 /// `WrongKind` at `path` where the value is no whole number from 0 to 2^64 - 1, `OutOfRange` where it is above `max`,
 /// or want of memory.
-pub fn whole_at(alloc: Global, value: &Value, path: &JsonPath, max: u64) -> Result<u64, JsonFault>
-    ensures { Gives (λ n. n) result (whole_of path.now max (view value.now)) }
+pub fn whole_at<V: JsonValue>(alloc: Global, value: &V, path: &JsonPath, max: u64) -> Result<u64, JsonFault>
+    ensures { Gives (λ n. n) result (whole_of path.now max (V.seen value.now)) }
 {
     match value.as_u64() {
         Some(number) if number <= max => Ok(number),

@@ -1,5 +1,6 @@
 //! Reading a JSON text.
 
+ghost use Rattle.serde_json.specs.View.{view};
 ghost use Rattle.json_read.specs.Text.{Parses};
 
 use crate::fault::ParseFault;
@@ -11,7 +12,7 @@ use std::alloc::Global;
 /// # Errors
 /// `NotJson` exactly where the bytes are none, or want of memory.
 pub fn parse(alloc: Global, bytes: &[u8]) -> Result<Value, ParseFault>
-    ensures { Parses bytes.now result }
+    ensures { Parses view bytes.now result }
 {
     match Value::from_slice(alloc, bytes) {
         Ok(value) => Ok(value),

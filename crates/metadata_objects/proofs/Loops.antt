@@ -1,11 +1,10 @@
 -- Loops over the items of a list: what was read so far, in front of the reading of the rest, is the reading of all.
-use Rattle.std.proofs.Common.{◌≡◌, ℕ, ◌+◌, ◌<◌, ◌≤◌, List, [], ◌∷◌, ◌++◌, length, drop, get_or, refl, sym, ◌∙◌, ap, None, Some, Ok, Err, append_assoc, append-nil, add-one, drop-cons}
+use Rattle.std.proofs.Common.{◌≡◌, ℕ, ◌+◌, ◌<◌, ◌≤◌, List, [], ◌∷◌, ◌++◌, length, map, drop, get_or, refl, sym, ◌∙◌, ap, None, Some, Ok, Err, append_assoc, append-nil, add-one, drop-cons}
 use Rattle.std.specs.Option.{option_map}
 use Rattle.std.specs.declared.option.Option.{Option}
 use Rattle.std.proofs.lemmas.List.{drop_all}
 use Rattle.serde_json.specs.Data.{Data, Items, no_items, item}
-use Rattle.serde_json.specs.View.{view, items_view}
-use Rattle.serde_json.specs.declared.value.Value.{Value}
+use Rattle.serde_json.specs.View.{items_of}
 use Rattle.json_read.specs.Field.{◌>>=◌}
 use Rattle.json_read.specs.Path.{item_of}
 use Rattle.metadata_objects.specs.Reading.{Reading, all_of, Fails}
@@ -14,12 +13,12 @@ use Rattle.metadata_objects.specs.declared.fault.MetaFault.{MetaFault}
 use Rattle.metadata_objects.specs.declared.fault.MetaFault.TheVariants.{TooLong, NotJson, Link, Field, TooMany, TooDeep, Memory}
 
 -- the items from the i-th on are the i-th and those after it
-item_here : (values : List Value) (i : ℕ) (value : Value) → i < length values → value ≡ get_or values i value
-    → items_view (drop i values) ≡ item (view value) (items_view (drop (i + 1) values))
-item_here values i value below is = rw (drop-cons values i value below, ← is, add-one i) refl
+item_here : {V : Type 0} (seen : V → Data) (values : List V) (i : ℕ) (value : V) → i < length values → value ≡ get_or values i value
+    → items_of (map seen (drop i values)) ≡ item (seen value) (items_of (map seen (drop (i + 1) values)))
+item_here seen values i value below is = rw (drop-cons values i value below, ← is, add-one i) refl
 
-item_none : (values : List Value) (i : ℕ) → length values ≤ i → items_view (drop i values) ≡ no_items
-item_none values i over = ap items_view (drop_all i values over)
+item_none : {V : Type 0} (seen : V → Data) (values : List V) (i : ℕ) → length values ≤ i → items_of (map seen (drop i values)) ≡ no_items
+item_none seen values i over = ap (λ left. items_of (map seen left)) (drop_all i values over)
 
 -- what was read, in front of the reading of the rest
 abbrev pub with_front : {A : Type 0} → List A → Reading (List A × ℕ) → Reading (List A × ℕ)
@@ -45,7 +44,7 @@ front_moves : {A : Type 0} (front : List A) (x : A) (rest : Reading (List A × �
 front_moves front x (Ok rest) = ap (λ xs. Ok (xs, rest.1)) (sym (append_assoc front (x ∷ []) rest.0))
 front_moves front x (Err fault) = refl
 
-module _ {A : Type 0} (read : List ℕ → ℕ → Data → Reading (A × ℕ)) (path : List ℕ) (values : List Value) (i n : ℕ) (front : List A) (whole : Reading (List A × ℕ)) where
+module _ {A V : Type 0} (seen : V → Data) (read : List ℕ → ℕ → Data → Reading (A × ℕ)) (path : List ℕ) (values : List V) (i n : ℕ) (front : List A) (whole : Reading (List A × ℕ)) where
   one_read : (value : Data) (rest : Items) (x : A) (m : ℕ) → read (item_of path i) n value ≡ Ok (x, m)
       → with_front front (all_of read path i n (item value rest)) ≡ with_front (front ++ x ∷ []) (all_of read path (i + 1) m rest)
   unfolding all_of
@@ -57,24 +56,24 @@ module _ {A : Type 0} (read : List ℕ → ℕ → Data → Reading (A × ℕ)) 
   none_read value rest fault is = rw is refl
 
   -- an item more was read
-  pub goes_on : with_front front (all_of read path i n (items_view (drop i values))) ≡ whole
-      → (value : Value) → i < length values → value ≡ get_or values i value → (x : A) (m : ℕ) → read (item_of path i) n (view value) ≡ Ok (x, m)
-      → with_front (front ++ x ∷ []) (all_of read path (i + 1) m (items_view (drop (i + 1) values))) ≡ whole
-  goes_on so_far value below is x m one = sym (one_read (view value) (items_view (drop (i + 1) values)) x m one)
-      ∙ ap (λ items. with_front front (all_of read path i n items)) (sym (item_here values i value below is)) ∙ so_far
+  pub goes_on : with_front front (all_of read path i n (items_of (map seen (drop i values)))) ≡ whole
+      → (value : V) → i < length values → value ≡ get_or values i value → (x : A) (m : ℕ) → read (item_of path i) n (seen value) ≡ Ok (x, m)
+      → with_front (front ++ x ∷ []) (all_of read path (i + 1) m (items_of (map seen (drop (i + 1) values)))) ≡ whole
+  goes_on so_far value below is x m one = sym (one_read (seen value) (items_of (map seen (drop (i + 1) values))) x m one)
+      ∙ ap (λ items. with_front front (all_of read path i n items)) (sym (item_here seen values i value below is)) ∙ so_far
 
   -- an item has the first fault
-  pub ends : with_front front (all_of read path i n (items_view (drop i values))) ≡ whole
-      → (value : Value) → i < length values → value ≡ get_or values i value → (fault : MetaFault) → Fails fault (read (item_of path i) n (view value))
+  pub ends : with_front front (all_of read path i n (items_of (map seen (drop i values)))) ≡ whole
+      → (value : V) → i < length values → value ≡ get_or values i value → (fault : MetaFault) → Fails fault (read (item_of path i) n (seen value))
       → Fails fault whole
-  ends so_far value below is fault = fails_on fault (read (item_of path i) n (view value)) whole (λ none. sym so_far
-      ∙ ap (λ items. with_front front (all_of read path i n items)) (item_here values i value below is)
-      ∙ none_read (view value) (items_view (drop (i + 1) values)) fault none)
+  ends so_far value below is fault = fails_on fault (read (item_of path i) n (seen value)) whole (λ none. sym so_far
+      ∙ ap (λ items. with_front front (all_of read path i n items)) (item_here seen values i value below is)
+      ∙ none_read (seen value) (items_of (map seen (drop (i + 1) values))) fault none)
 
   -- all items were read
-  pub is_done : with_front front (all_of read path i n (items_view (drop i values))) ≡ whole → length values ≤ i → whole ≡ Ok (front, n)
+  pub is_done : with_front front (all_of read path i n (items_of (map seen (drop i values)))) ≡ whole → length values ≤ i → whole ≡ Ok (front, n)
   unfolding all_of
-  is_done so_far over = sym so_far ∙ ap (λ items. with_front front (all_of read path i n items)) (item_none values i over) ∙ ap (λ xs. Ok (xs, n)) (append-nil front)
+  is_done so_far over = sym so_far ∙ ap (λ items. with_front front (all_of read path i n items)) (item_none seen values i over) ∙ ap (λ xs. Ok (xs, n)) (append-nil front)
 
 -- the same for items of which one that does not read spoils all
 abbrev pub after_front : {A : Type 0} → List A → Option (List A) → Option (List A)
@@ -85,7 +84,7 @@ each_moves : {A : Type 0} (front : List A) (x : A) (rest : Option (List A))
 each_moves front x None = refl
 each_moves front x (Some rest) = ap Some (sym (append_assoc front (x ∷ []) rest))
 
-module _ {A : Type 0} (read : Data → Option A) (values : List Value) (i : ℕ) (front : List A) (whole : Option (List A)) where
+module _ {A V : Type 0} (seen : V → Data) (read : Data → Option A) (values : List V) (i : ℕ) (front : List A) (whole : Option (List A)) where
   each_read : (value : Data) (rest : Items) (x : A) → read value ≡ Some x
       → after_front front (each_of read (item value rest)) ≡ after_front (front ++ x ∷ []) (each_of read rest)
   unfolding each_of
@@ -95,17 +94,17 @@ module _ {A : Type 0} (read : Data → Option A) (values : List Value) (i : ℕ)
   unfolding each_of
   each_unread value rest is = rw is refl
 
-  pub each_goes_on : after_front front (each_of read (items_view (drop i values))) ≡ whole
-      → (value : Value) → i < length values → value ≡ get_or values i value → (x : A) → Some x ≡ read (view value)
-      → after_front (front ++ x ∷ []) (each_of read (items_view (drop (i + 1) values))) ≡ whole
-  each_goes_on so_far value below is x one = sym (each_read (view value) (items_view (drop (i + 1) values)) x (sym one))
-      ∙ ap (λ items. after_front front (each_of read items)) (sym (item_here values i value below is)) ∙ so_far
+  pub each_goes_on : after_front front (each_of read (items_of (map seen (drop i values)))) ≡ whole
+      → (value : V) → i < length values → value ≡ get_or values i value → (x : A) → Some x ≡ read (seen value)
+      → after_front (front ++ x ∷ []) (each_of read (items_of (map seen (drop (i + 1) values)))) ≡ whole
+  each_goes_on so_far value below is x one = sym (each_read (seen value) (items_of (map seen (drop (i + 1) values))) x (sym one))
+      ∙ ap (λ items. after_front front (each_of read items)) (sym (item_here seen values i value below is)) ∙ so_far
 
-  pub each_stops : after_front front (each_of read (items_view (drop i values))) ≡ whole
-      → (value : Value) → i < length values → value ≡ get_or values i value → None ≡ read (view value) → None ≡ whole
-  each_stops so_far value below is none = sym (each_unread (view value) (items_view (drop (i + 1) values)) (sym none))
-      ∙ ap (λ items. after_front front (each_of read items)) (sym (item_here values i value below is)) ∙ so_far
+  pub each_stops : after_front front (each_of read (items_of (map seen (drop i values)))) ≡ whole
+      → (value : V) → i < length values → value ≡ get_or values i value → None ≡ read (seen value) → None ≡ whole
+  each_stops so_far value below is none = sym (each_unread (seen value) (items_of (map seen (drop (i + 1) values))) (sym none))
+      ∙ ap (λ items. after_front front (each_of read items)) (sym (item_here seen values i value below is)) ∙ so_far
 
-  pub each_done : after_front front (each_of read (items_view (drop i values))) ≡ whole → length values ≤ i → Some front ≡ whole
+  pub each_done : after_front front (each_of read (items_of (map seen (drop i values)))) ≡ whole → length values ≤ i → Some front ≡ whole
   unfolding each_of
-  each_done so_far over = ap Some (sym (append-nil front)) ∙ ap (λ items. after_front front (each_of read items)) (sym (item_none values i over)) ∙ so_far
+  each_done so_far over = ap Some (sym (append-nil front)) ∙ ap (λ items. after_front front (each_of read items)) (sym (item_none seen values i over)) ∙ so_far

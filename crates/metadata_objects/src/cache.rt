@@ -3,18 +3,17 @@
 ghost use Rattle.std.specs.Prelude.{◌≡◌, IfOk, map};
 ghost use Rattle.std.specs.List.{list_all};
 ghost use Rattle.std.specs.Str.{str_to_ascii_lowercase};
-ghost use Rattle.serde_json.specs.View.{view};
 ghost use Rattle.metadata_objects.specs.Cache.{ignored_names, ignored_in, is_ccid_byte, ccid_of, grouping_in};
 
 use crate::items::each;
 use cdni_base::{Ignored, Listing, Text, TextList};
-use json_read::Value;
+use json_read::JsonValue;
 use std::alloc::{AllocError, Global};
 
 // which part of the query does not count, if the value reads
 #[tactic(auto, unfolding(crate::specs::Cache::ignored_in))]
-pub(crate) fn ignored_of(alloc: Global, value: &Value) -> Result<Option<Ignored>, AllocError>
-    ensures { IfOk result (λ found. found ≡ ignored_in (view value.now)) }
+pub(crate) fn ignored_of<V: JsonValue>(alloc: Global, value: &V) -> Result<Option<Ignored>, AllocError>
+    ensures { IfOk result (λ found. found ≡ ignored_in (V.seen value.now)) }
 {
     if !value.is_object() {
         return Ok(None);
@@ -25,7 +24,7 @@ pub(crate) fn ignored_of(alloc: Global, value: &Value) -> Result<Option<Ignored>
     let Some(items) = member.as_array() else {
         return Ok(None);
     };
-    match each::<Text>(alloc, items)? {
+    match each::<Text, V>(alloc, items)? {
         Some(names) => Ok(Some(ignored_by(alloc, &names)?)),
         None => Ok(None),
     }
@@ -64,8 +63,8 @@ fn lowered(alloc: Global, text: &Text) -> Result<Text, AllocError>
 
 // the ccid of a group, which may be absent, if the value reads
 #[tactic(auto, unfolding(crate::specs::Cache::grouping_in))]
-pub(crate) fn grouping_of(alloc: Global, value: &Value) -> Result<Option<Option<Text>>, AllocError>
-    ensures { IfOk result (λ found. found ≡ grouping_in (view value.now)) }
+pub(crate) fn grouping_of<V: JsonValue>(alloc: Global, value: &V) -> Result<Option<Option<Text>>, AllocError>
+    ensures { IfOk result (λ found. found ≡ grouping_in (V.seen value.now)) }
 {
     if !value.is_object() {
         return Ok(None);

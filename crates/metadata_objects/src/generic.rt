@@ -1,7 +1,7 @@
 //! GenericMetadata (RFC 8006, section 4.1.7).
 
-ghost use Rattle.std.specs.Prelude.{◌≡◌, IfOk};
-ghost use Rattle.serde_json.specs.View.{view, items_view};
+ghost use Rattle.std.specs.Prelude.{◌≡◌, IfOk, map};
+ghost use Rattle.serde_json.specs.View.{items_of};
 ghost use Rattle.metadata_objects.specs.Reading.{Gives};
 ghost use Rattle.metadata_objects.specs.Generic.{kind_of, understood, understood_list, held_of, generic_of, generics_of};
 
@@ -12,7 +12,7 @@ use crate::location::locations_of;
 use crate::object::{flag, one_more, out_of_range, refuse_link, text};
 use crate::source::sources_of;
 use cdni_base::{Ignored, Listing, SourceItemList, Text};
-use json_read::{JsonPath, Value, need};
+use json_read::{JsonPath, JsonValue, need};
 use location_acl::LocationAcl;
 use protocol_acl::ProtocolAcl;
 use std::alloc::{AllocError, Global};
@@ -54,13 +54,13 @@ pub enum Held {
 pub type GenericList = Listing<Generic>;
 
 // the objects of the list at `path`, after `count` objects
-pub(crate) fn generics_at(
+pub(crate) fn generics_at<V: JsonValue>(
     alloc: Global,
-    items: &[Value],
+    items: &[V],
     path: &JsonPath,
     count: u32,
 ) -> Result<(GenericList, u32), MetaFault>
-    ensures { Gives (λ x. (x.0, x.1)) result (generics_of path.now count (items_view items.now)) }
+    ensures { Gives (λ x. (x.0, x.1)) result (generics_of path.now count (items_of (map V.seen items.now))) }
 {
     let mut list = Listing::new(alloc);
     let mut so_far = count;
@@ -75,13 +75,13 @@ pub(crate) fn generics_at(
 
 // the object at `path`, after `count` objects
 #[tactic(auto, unfolding(crate::specs::Generic::generic_of))]
-fn generic_at(
+fn generic_at<V: JsonValue>(
     alloc: Global,
-    value: &Value,
+    value: &V,
     path: &JsonPath,
     count: u32,
 ) -> Result<(Generic, u32), MetaFault>
-    ensures { Gives (λ x. (x.0, x.1)) result (generic_of path.now count (view value.now)) }
+    ensures { Gives (λ x. (x.0, x.1)) result (generic_of path.now count (V.seen value.now)) }
 {
     let count = one_more(count)?;
     refuse_link(alloc, value, path)?;
@@ -121,13 +121,13 @@ fn kind_at(alloc: Global, name: &[u8]) -> Result<Option<Text>, AllocError>
 }
 
 // what is held of a value of this type
-fn held_at(
+fn held_at<V: JsonValue>(
     alloc: Global,
     incomprehensible: bool,
     kind: &Text,
-    value: &Value,
+    value: &V,
 ) -> Result<Held, AllocError>
-    ensures { IfOk result (λ held. held ≡ held_of incomprehensible kind.now (view value.now)) }
+    ensures { IfOk result (λ held. held ≡ held_of incomprehensible kind.now (V.seen value.now)) }
 {
     if incomprehensible {
         return Ok(Held::NotUnderstood);
@@ -137,8 +137,8 @@ fn held_at(
 
 // what is understood of a value of this type
 #[tactic(auto, unfolding(crate::specs::Generic::understood))]
-fn understand(alloc: Global, kind: &Text, value: &Value) -> Result<Held, AllocError>
-    ensures { IfOk result (λ held. held ≡ understood kind.now (view value.now)) }
+fn understand<V: JsonValue>(alloc: Global, kind: &Text, value: &V) -> Result<Held, AllocError>
+    ensures { IfOk result (λ held. held ≡ understood kind.now (V.seen value.now)) }
 {
     let held = if kind.is(b"mi.sourcemetadata") {
         sources_of(alloc, value)?.map(Held::Source)
@@ -154,8 +154,8 @@ fn understand(alloc: Global, kind: &Text, value: &Value) -> Result<Held, AllocEr
 
 // the same of the access lists
 #[tactic(auto, unfolding(crate::specs::Generic::understood_list))]
-fn understand_list(alloc: Global, kind: &Text, value: &Value) -> Result<Held, AllocError>
-    ensures { IfOk result (λ held. held ≡ understood_list kind.now (view value.now)) }
+fn understand_list<V: JsonValue>(alloc: Global, kind: &Text, value: &V) -> Result<Held, AllocError>
+    ensures { IfOk result (λ held. held ≡ understood_list kind.now (V.seen value.now)) }
 {
     let held = if kind.is(b"mi.locationacl") {
         locations_of(alloc, value)?.map(Held::Location)

@@ -1,7 +1,7 @@
 //! HostIndex and HostMatch (RFC 8006, sections 4.1.1 and 4.1.2).
 
-ghost use Rattle.std.specs.Prelude.{◌≡◌};
-ghost use Rattle.serde_json.specs.View.{view, items_view};
+ghost use Rattle.std.specs.Prelude.{◌≡◌, map};
+ghost use Rattle.serde_json.specs.View.{items_of};
 ghost use Rattle.metadata_objects.specs.Reading.{Gives};
 ghost use Rattle.metadata_objects.specs.Host.{host_match_of, hosts_of};
 ghost use Rattle.metadata_objects.specs.Tree.{host_view, hosts_view};
@@ -10,7 +10,7 @@ use crate::fault::MetaFault;
 use crate::level::{Level, level_at_member};
 use crate::object::{one_more, out_of_range, refuse_link, text};
 use cdni_base::{Endpoint, EndpointFault, Listing};
-use json_read::{JsonPath, ParseFault, Value, list_at, need, parse};
+use json_read::{JsonPath, JsonScratch, JsonValue, ParseFault, list_at, need, parse_borrowed};
 use std::alloc::Global;
 
 /// How many PathMatch objects may nest.
@@ -47,7 +47,8 @@ impl HostIndex {
         if bytes.len() > 8388608 {
             return Err(MetaFault::TooLong { len: bytes.len() });
         }
-        match parse(alloc, bytes) {
+        let mut scratch = JsonScratch::new(alloc);
+        match parse_borrowed(alloc, bytes, &mut scratch) {
             Ok(value) => HostIndex::of_value(alloc, &value),
             Err(ParseFault::NotJson) => Err(MetaFault::NotJson),
             Err(ParseFault::Memory) => Err(MetaFault::Memory),
@@ -59,8 +60,8 @@ impl HostIndex {
     /// # Errors
     /// The first fault in the order of reading, or want of memory.
     #[tactic(auto, unfolding(crate::specs::Host::host_index_of))]
-    pub fn of_value(alloc: Global, value: &Value) -> Result<HostIndex, MetaFault>
-        ensures { Gives (λ index. index_view index) result (host_index_of (view value.now)) }
+    pub fn of_value<V: JsonValue>(alloc: Global, value: &V) -> Result<HostIndex, MetaFault>
+        ensures { Gives (λ index. index_view index) result (host_index_of (V.seen value.now)) }
     {
         let root = JsonPath::root(alloc);
         let list = need(alloc, value, &root, "hosts")?;
@@ -72,13 +73,13 @@ impl HostIndex {
 }
 
 // the hosts of the list at `path`, after `count` objects
-fn hosts_at(
+fn hosts_at<V: JsonValue>(
     alloc: Global,
-    items: &[Value],
+    items: &[V],
     path: &JsonPath,
     count: u32,
 ) -> Result<(HostMatchList, u32), MetaFault>
-    ensures { Gives (λ x. (hosts_view x.0, x.1)) result (hosts_of path.now count (items_view items.now)) }
+    ensures { Gives (λ x. (hosts_view x.0, x.1)) result (hosts_of path.now count (items_of (map V.seen items.now))) }
 {
     let mut list = Listing::new(alloc);
     let mut so_far = count;
@@ -93,13 +94,13 @@ fn hosts_at(
 
 // the HostMatch at `path`, after `count` objects
 #[tactic(auto, unfolding(crate::specs::Host::host_match_of))]
-fn host_match_at(
+fn host_match_at<V: JsonValue>(
     alloc: Global,
-    value: &Value,
+    value: &V,
     path: &JsonPath,
     count: u32,
 ) -> Result<(HostMatch, u32), MetaFault>
-    ensures { Gives (λ x. (host_view x.0, x.1)) result (host_match_of path.now count (view value.now)) }
+    ensures { Gives (λ x. (host_view x.0, x.1)) result (host_match_of path.now count (V.seen value.now)) }
 {
     let count = one_more(count)?;
     refuse_link(alloc, value, path)?;

@@ -1,7 +1,7 @@
 //! HostMetadata, PathMetadata, PathMatch and PatternMatch (RFC 8006, sections 4.1.3 to 4.1.6).
 
-ghost use Rattle.std.specs.Prelude.{◌≡◌};
-ghost use Rattle.serde_json.specs.View.{view, items_view};
+ghost use Rattle.std.specs.Prelude.{◌≡◌, map};
+ghost use Rattle.serde_json.specs.View.{items_of};
 ghost use Rattle.json_read.specs.Path.{IsName};
 ghost use Rattle.metadata_objects.specs.Reading.{Gives, all_of};
 ghost use Rattle.metadata_objects.specs.Tree.{level_view, path_view, paths_view};
@@ -11,7 +11,7 @@ use crate::fault::MetaFault;
 use crate::generic::{GenericList, generics_at};
 use crate::object::{flag, one_more, out_of_range, refuse_link, text};
 use cdni_base::Listing;
-use json_read::{JsonPath, Value, list_at, maybe, need};
+use json_read::{JsonPath, JsonValue, list_at, maybe, need};
 use pattern_match::{MAX_PATTERN_LEN, Pattern, PatternFault};
 use std::alloc::Global;
 
@@ -37,16 +37,16 @@ pub type PathMatchList = Vec<PathMatch>;
 // the level at the property `name` of the object at `path`, below which `left` PathMatch objects may nest, after `count` objects
 #[cycle(levels)]
 #[tactic(auto, unfolding(crate::specs::Level::needed_level))]
-pub(crate) fn level_at_member(
+pub(crate) fn level_at_member<V: JsonValue>(
     alloc: Global,
-    value: &Value,
+    value: &V,
     path: &JsonPath,
     name: &str,
     left: u32,
     count: u32,
 ) -> Result<(Level, u32), MetaFault>
     requires { IsName name.now }
-    ensures { Gives (λ x. (level_view x.0, x.1)) result (needed_level (path_match_of left) path.now name.now count (view value.now)) }
+    ensures { Gives (λ x. (level_view x.0, x.1)) result (needed_level (path_match_of left) path.now name.now count (V.seen value.now)) }
 {
     let member = need(alloc, value, path, name)?;
     level_at(alloc, member, &path.child(alloc, name)?, left, count)
@@ -55,14 +55,14 @@ pub(crate) fn level_at_member(
 // the level at `path`
 #[cycle(levels)]
 #[tactic(auto, unfolding(crate::specs::Level::level_with))]
-fn level_at(
+fn level_at<V: JsonValue>(
     alloc: Global,
-    value: &Value,
+    value: &V,
     path: &JsonPath,
     left: u32,
     count: u32,
 ) -> Result<(Level, u32), MetaFault>
-    ensures { Gives (λ x. (level_view x.0, x.1)) result (level_with (path_match_of left) path.now count (view value.now)) }
+    ensures { Gives (λ x. (level_view x.0, x.1)) result (level_with (path_match_of left) path.now count (V.seen value.now)) }
 {
     refuse_link(alloc, value, path)?;
     let (metadata, count) = metadata_at(alloc, value, path, count)?;
@@ -72,13 +72,13 @@ fn level_at(
 
 // the objects of the property `metadata` of the object at `path`, after `count` objects
 #[tactic(auto, unfolding(crate::specs::Level::metadata_of))]
-fn metadata_at(
+fn metadata_at<V: JsonValue>(
     alloc: Global,
-    value: &Value,
+    value: &V,
     path: &JsonPath,
     count: u32,
 ) -> Result<(GenericList, u32), MetaFault>
-    ensures { Gives (λ x. (x.0, x.1)) result (metadata_of path.now count (view value.now)) }
+    ensures { Gives (λ x. (x.0, x.1)) result (metadata_of path.now count (V.seen value.now)) }
 {
     let Some(list) = maybe(alloc, value, path, "metadata")? else {
         return Ok((Listing::new(alloc), count));
@@ -91,14 +91,14 @@ fn metadata_at(
 // the PathMatch objects of the property `paths` of the object at `path`
 #[cycle(levels)]
 #[tactic(auto, unfolding(crate::specs::Level::paths_of))]
-fn paths_at(
+fn paths_at<V: JsonValue>(
     alloc: Global,
-    value: &Value,
+    value: &V,
     path: &JsonPath,
     left: u32,
     count: u32,
 ) -> Result<(PathMatchList, u32), MetaFault>
-    ensures { Gives (λ x. (paths_view x.0.items, x.1)) result (paths_of (path_match_of left) path.now count (view value.now)) }
+    ensures { Gives (λ x. (paths_view x.0.items, x.1)) result (paths_of (path_match_of left) path.now count (V.seen value.now)) }
 {
     let Some(list) = maybe(alloc, value, path, "paths")? else {
         return Ok((Vec::new(alloc), count));
@@ -110,14 +110,14 @@ fn paths_at(
 
 // the PathMatch objects of the list at `path`
 #[cycle(levels)]
-fn path_matches_at(
+fn path_matches_at<V: JsonValue>(
     alloc: Global,
-    items: &[Value],
+    items: &[V],
     path: &JsonPath,
     left: u32,
     count: u32,
 ) -> Result<(PathMatchList, u32), MetaFault>
-    ensures { Gives (λ x. (paths_view x.0.items, x.1)) result (all_of (path_match_of left) path.now 0 count (items_view items.now)) }
+    ensures { Gives (λ x. (paths_view x.0.items, x.1)) result (all_of (path_match_of left) path.now 0 count (items_of (map V.seen items.now))) }
 {
     let mut list = Vec::new(alloc);
     let mut so_far = count;
@@ -135,14 +135,14 @@ fn path_matches_at(
 
 // the PathMatch at `path`, at which `left` more may nest, itself counted
 #[cycle(levels)]
-fn path_match_at(
+fn path_match_at<V: JsonValue>(
     alloc: Global,
-    value: &Value,
+    value: &V,
     path: &JsonPath,
     left: u32,
     count: u32,
 ) -> Result<(PathMatch, u32), MetaFault>
-    ensures { Gives (λ x. (path_view x.0, x.1)) result (path_match_of left path.now count (view value.now)) }
+    ensures { Gives (λ x. (path_view x.0, x.1)) result (path_match_of left path.now count (V.seen value.now)) }
 {
     if left == 0 {
         one_more(count)?;
@@ -154,14 +154,14 @@ fn path_match_at(
 // the PathMatch at `path`, below which `left` more may nest
 #[cycle(levels)]
 #[tactic(auto, unfolding(crate::specs::Level::path_match_with))]
-fn path_match_within(
+fn path_match_within<V: JsonValue>(
     alloc: Global,
-    value: &Value,
+    value: &V,
     path: &JsonPath,
     left: u32,
     count: u32,
 ) -> Result<(PathMatch, u32), MetaFault>
-    ensures { Gives (λ x. (path_view x.0, x.1)) result (path_match_with (path_match_of left) path.now count (view value.now)) }
+    ensures { Gives (λ x. (path_view x.0, x.1)) result (path_match_with (path_match_of left) path.now count (V.seen value.now)) }
 {
     let count = one_more(count)?;
     refuse_link(alloc, value, path)?;
@@ -172,14 +172,14 @@ fn path_match_within(
 
 // the pattern at the property `name` of the object at `path`
 #[tactic(auto, unfolding(crate::specs::Level::needed_pattern))]
-fn pattern_at_member(
+fn pattern_at_member<V: JsonValue>(
     alloc: Global,
-    value: &Value,
+    value: &V,
     path: &JsonPath,
     name: &str,
 ) -> Result<Pattern, MetaFault>
     requires { IsName name.now }
-    ensures { Gives (λ pattern. pattern) result (needed_pattern path.now name.now (view value.now)) }
+    ensures { Gives (λ pattern. pattern) result (needed_pattern path.now name.now (V.seen value.now)) }
 {
     let member = need(alloc, value, path, name)?;
     pattern_at(alloc, member, &path.child(alloc, name)?)
@@ -187,8 +187,8 @@ fn pattern_at_member(
 
 // the PatternMatch at `path`
 #[tactic(auto, unfolding(crate::specs::Level::pattern_of))]
-fn pattern_at(alloc: Global, value: &Value, path: &JsonPath) -> Result<Pattern, MetaFault>
-    ensures { Gives (λ pattern. pattern) result (pattern_of path.now (view value.now)) }
+fn pattern_at<V: JsonValue>(alloc: Global, value: &V, path: &JsonPath) -> Result<Pattern, MetaFault>
+    ensures { Gives (λ pattern. pattern) result (pattern_of path.now (V.seen value.now)) }
 {
     let pattern = text(alloc, value, path, "pattern")?;
     if pattern.len() > MAX_PATTERN_LEN {

@@ -1,34 +1,34 @@
 //! The value of MI.LocationACL (RFC 8006, section 4.2.2).
 
-ghost use Rattle.std.specs.Prelude.{◌≡◌, ◌++◌, IfOk, OnOk};
+ghost use Rattle.std.specs.Prelude.{◌≡◌, ◌++◌, IfOk, OnOk, map};
 ghost use Rattle.std.specs.List.{flat_map};
-ghost use Rattle.serde_json.specs.View.{view, items_view};
+ghost use Rattle.serde_json.specs.View.{items_of};
 ghost use Rattle.metadata_objects.specs.Items.{each_of};
 ghost use Rattle.metadata_objects.specs.Lists.{is_footprint_type, footprint_value_in, footprints_of_type, footprints_in, location_rule_in, locations_in};
 
 use crate::items::Item;
 use crate::lists::{action_of, listed, rules};
 use cdni_base::Listing;
-use json_read::Value;
+use json_read::JsonValue;
 use location_acl::{Footprint, FootprintList, LocationAcl, LocationRule};
 use std::alloc::{AllocError, Global};
 
 // the location list of a value, if it reads
 #[tactic(auto, unfolding(crate::specs::Lists::locations_in))]
-pub(crate) fn locations_of(alloc: Global, value: &Value) -> Result<Option<LocationAcl>, AllocError>
-    ensures { IfOk result (λ found. found ≡ locations_in (view value.now)) }
+pub(crate) fn locations_of<V: JsonValue>(alloc: Global, value: &V) -> Result<Option<LocationAcl>, AllocError>
+    ensures { IfOk result (λ found. found ≡ locations_in (V.seen value.now)) }
 {
-    match rules::<LocationRule>(alloc, value, "locations")? {
+    match rules::<LocationRule, V>(alloc, value, "locations")? {
         Some(rules) => Ok(LocationAcl::new(rules)),
         None => Ok(None),
     }
 }
 
 #[tactic(auto, unfolding(crate::specs::Lists::location_rule_in))]
-fn location_rule_of(alloc: Global, value: &Value) -> Result<Option<LocationRule>, AllocError>
-    ensures { IfOk result (λ found. found ≡ location_rule_in (view value.now)) }
+fn location_rule_of<V: JsonValue>(alloc: Global, value: &V) -> Result<Option<LocationRule>, AllocError>
+    ensures { IfOk result (λ found. found ≡ location_rule_in (V.seen value.now)) }
 {
-    let Some(lists) = listed::<FootprintList>(alloc, value, "footprints")? else {
+    let Some(lists) = listed::<FootprintList, V>(alloc, value, "footprints")? else {
         return Ok(None);
     };
     let Some(allow) = action_of(value) else {
@@ -62,24 +62,24 @@ fn add(all: &mut FootprintList, list: &FootprintList) -> Result<(), AllocError>
 
 // the values of a footprint, each as a footprint of its own
 #[tactic(auto, unfolding(crate::specs::Lists::footprints_in))]
-fn footprints_of(alloc: Global, value: &Value) -> Result<Option<FootprintList>, AllocError>
-    ensures { IfOk result (λ found. found ≡ footprints_in (view value.now)) }
+fn footprints_of<V: JsonValue>(alloc: Global, value: &V) -> Result<Option<FootprintList>, AllocError>
+    ensures { IfOk result (λ found. found ≡ footprints_in (V.seen value.now)) }
 {
-    let Some(kind) = value.get("footprint-type").and_then(Value::as_str) else {
+    let Some(kind) = value.get("footprint-type").and_then(V::as_str) else {
         return Ok(None);
     };
-    let Some(items) = value.get("footprint-value").and_then(Value::as_array) else {
+    let Some(items) = value.get("footprint-value").and_then(V::as_array) else {
         return Ok(None);
     };
     footprints_of_type(alloc, kind.as_bytes(), items)
 }
 
-fn footprints_of_type(
+fn footprints_of_type<V: JsonValue>(
     alloc: Global,
     kind: &[u8],
-    items: &[Value],
+    items: &[V],
 ) -> Result<Option<FootprintList>, AllocError>
-    ensures { IfOk result (λ found. found ≡ footprints_of_type kind.now (items_view items.now)) }
+    ensures { IfOk result (λ found. found ≡ footprints_of_type kind.now (items_of (map V.seen items.now))) }
 {
     if !is_footprint_type(kind) {
         return Ok(None);
@@ -97,12 +97,12 @@ fn is_footprint_type(kind: &[u8]) -> bool
 }
 
 // the values of footprints of this type, if each of them reads
-fn each_value(
+fn each_value<V: JsonValue>(
     alloc: Global,
     kind: &[u8],
-    items: &[Value],
+    items: &[V],
 ) -> Result<Option<FootprintList>, AllocError>
-    ensures { IfOk result (λ found. found ≡ each_of (footprint_value_in kind.now) (items_view items.now)) }
+    ensures { IfOk result (λ found. found ≡ each_of (footprint_value_in kind.now) (items_of (map V.seen items.now))) }
 {
     let mut list = Listing::new(alloc);
     'items: for i in 0..items.len() {
@@ -115,8 +115,8 @@ fn each_value(
 }
 
 #[tactic(auto, unfolding(crate::specs::Lists::footprint_value_in))]
-fn value_of(kind: &[u8], value: &Value) -> Option<Footprint>
-    ensures { result ≡ footprint_value_in kind.now (view value.now) }
+fn value_of<V: JsonValue>(kind: &[u8], value: &V) -> Option<Footprint>
+    ensures { result ≡ footprint_value_in kind.now (V.seen value.now) }
 {
     match value.as_str() {
         Some(text) => Footprint::read(kind, text.as_bytes()),
@@ -129,7 +129,7 @@ impl Item for LocationRule {
 
     ghost reads = { location_rule_in };
 
-    fn read_item(alloc: Global, value: &Value) -> Result<Option<LocationRule>, AllocError> {
+    fn read_item<V: JsonValue>(alloc: Global, value: &V) -> Result<Option<LocationRule>, AllocError> {
         location_rule_of(alloc, value)
     }
 }
@@ -139,7 +139,7 @@ impl Item for FootprintList {
 
     ghost reads = { footprints_in };
 
-    fn read_item(alloc: Global, value: &Value) -> Result<Option<FootprintList>, AllocError> {
+    fn read_item<V: JsonValue>(alloc: Global, value: &V) -> Result<Option<FootprintList>, AllocError> {
         footprints_of(alloc, value)
     }
 }

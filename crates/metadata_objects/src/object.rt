@@ -1,12 +1,11 @@
 //! Properties of a metadata object.
 
 ghost use Rattle.std.specs.Prelude.{◌≡◌, string_bytes, Ok};
-ghost use Rattle.serde_json.specs.View.{view};
 ghost use Rattle.json_read.specs.Path.{IsName};
 ghost use Rattle.metadata_objects.specs.Reading.{Gives, counted, no_link, IsOutOfRange, needed_text, flag_or};
 
 use crate::fault::MetaFault;
-use json_read::{FieldCause, FieldFault, JsonPath, Value, flag_at, maybe, need, text_at};
+use json_read::{FieldCause, FieldFault, JsonPath, JsonValue, flag_at, maybe, need, text_at};
 use std::alloc::Global;
 
 // one object more than `count`
@@ -21,8 +20,8 @@ pub(crate) fn one_more(count: u32) -> Result<u32, MetaFault>
 }
 
 // refuses a Link
-pub(crate) fn refuse_link(alloc: Global, value: &Value, path: &JsonPath) -> Result<(), MetaFault>
-    ensures { Gives (λ nothing. nothing) result (no_link path.now (view value.now)) }
+pub(crate) fn refuse_link<V: JsonValue>(alloc: Global, value: &V, path: &JsonPath) -> Result<(), MetaFault>
+    ensures { Gives (λ nothing. nothing) result (no_link path.now (V.seen value.now)) }
 {
     if value.get("href").is_some() {
         return Err(MetaFault::Link {
@@ -47,29 +46,29 @@ pub(crate) fn out_of_range(alloc: Global, path: &JsonPath, name: &str) -> MetaFa
 }
 
 // the text that must stand at the property `name`
-pub(crate) fn text(
+pub(crate) fn text<V: JsonValue>(
     alloc: Global,
-    value: &Value,
+    value: &V,
     path: &JsonPath,
     name: &str,
 ) -> Result<String, MetaFault>
     requires { IsName name.now }
-    ensures { Gives (λ text. string_bytes text) result (needed_text path.now name.now (view value.now)) }
+    ensures { Gives (λ text. string_bytes text) result (needed_text path.now name.now (V.seen value.now)) }
 {
     let member = need(alloc, value, path, name)?;
     Ok(text_at(alloc, member, &path.child(alloc, name)?)?)
 }
 
 // the flag at the property `name`, or `absent` where it is not there
-pub(crate) fn flag(
+pub(crate) fn flag<V: JsonValue>(
     alloc: Global,
-    value: &Value,
+    value: &V,
     path: &JsonPath,
     name: &str,
     absent: bool,
 ) -> Result<bool, MetaFault>
     requires { IsName name.now }
-    ensures { Gives (λ flag. flag) result (flag_or path.now name.now absent (view value.now)) }
+    ensures { Gives (λ flag. flag) result (flag_or path.now name.now absent (V.seen value.now)) }
 {
     match maybe(alloc, value, path, name)? {
         Some(member) => Ok(flag_at(alloc, member, &path.child(alloc, name)?)?),

@@ -1,18 +1,17 @@
 //! The value of MI.SourceMetadata (RFC 8006, section 4.2.1).
 
 ghost use Rattle.std.specs.Prelude.{◌≡◌, IfOk, nat_le};
-ghost use Rattle.serde_json.specs.View.{view};
 ghost use Rattle.metadata_objects.specs.Source.{endpoint_in, source_in, sources_in, listed_sources, few_sources, endpoint_count};
 
 use crate::items::{Item, each};
 use cdni_base::{Endpoint, EndpointFault, Listing, SourceItem, SourceItemList, Text};
-use json_read::Value;
+use json_read::JsonValue;
 use std::alloc::{AllocError, Global};
 
 // the sources of the value, if it reads
 #[tactic(auto, unfolding(crate::specs::Source::sources_in))]
-pub(crate) fn sources_of(alloc: Global, value: &Value) -> Result<Option<SourceItemList>, AllocError>
-    ensures { IfOk result (λ found. found ≡ sources_in (view value.now)) }
+pub(crate) fn sources_of<V: JsonValue>(alloc: Global, value: &V) -> Result<Option<SourceItemList>, AllocError>
+    ensures { IfOk result (λ found. found ≡ sources_in (V.seen value.now)) }
 {
     if !value.is_object() {
         return Ok(None);
@@ -23,7 +22,7 @@ pub(crate) fn sources_of(alloc: Global, value: &Value) -> Result<Option<SourceIt
     let Some(items) = list.as_array() else {
         return Ok(None);
     };
-    match each::<SourceItem>(alloc, items)? {
+    match each::<SourceItem, V>(alloc, items)? {
         Some(sources) => Ok(few(sources)),
         None => Ok(None),
     }
@@ -55,19 +54,19 @@ fn count_endpoints(sources: &SourceItemList) -> usize
 }
 
 #[tactic(auto, unfolding(crate::specs::Source::source_in))]
-fn source_of(alloc: Global, value: &Value) -> Result<Option<SourceItem>, AllocError>
-    ensures { IfOk result (λ found. found ≡ source_in (view value.now)) }
+fn source_of<V: JsonValue>(alloc: Global, value: &V) -> Result<Option<SourceItem>, AllocError>
+    ensures { IfOk result (λ found. found ≡ source_in (V.seen value.now)) }
 {
     if value.get("acquisition-auth").is_some() {
         return Ok(None);
     }
-    let Some(protocol) = value.get("protocol").and_then(Value::as_str) else {
+    let Some(protocol) = value.get("protocol").and_then(V::as_str) else {
         return Ok(None);
     };
-    let Some(items) = value.get("endpoints").and_then(Value::as_array) else {
+    let Some(items) = value.get("endpoints").and_then(V::as_array) else {
         return Ok(None);
     };
-    let Some(endpoints) = each::<Endpoint>(alloc, items)? else {
+    let Some(endpoints) = each::<Endpoint, V>(alloc, items)? else {
         return Ok(None);
     };
     Ok(Some(SourceItem {
@@ -77,8 +76,8 @@ fn source_of(alloc: Global, value: &Value) -> Result<Option<SourceItem>, AllocEr
 }
 
 #[tactic(auto, unfolding(crate::specs::Source::endpoint_in))]
-fn endpoint_of(alloc: Global, value: &Value) -> Result<Option<Endpoint>, AllocError>
-    ensures { IfOk result (λ found. found ≡ endpoint_in (view value.now)) }
+fn endpoint_of<V: JsonValue>(alloc: Global, value: &V) -> Result<Option<Endpoint>, AllocError>
+    ensures { IfOk result (λ found. found ≡ endpoint_in (V.seen value.now)) }
 {
     let Some(text) = value.as_str() else {
         return Ok(None);
@@ -95,7 +94,7 @@ impl Item for SourceItem {
 
     ghost reads = { source_in };
 
-    fn read_item(alloc: Global, value: &Value) -> Result<Option<SourceItem>, AllocError> {
+    fn read_item<V: JsonValue>(alloc: Global, value: &V) -> Result<Option<SourceItem>, AllocError> {
         source_of(alloc, value)
     }
 }
@@ -105,7 +104,7 @@ impl Item for Endpoint {
 
     ghost reads = { endpoint_in };
 
-    fn read_item(alloc: Global, value: &Value) -> Result<Option<Endpoint>, AllocError> {
+    fn read_item<V: JsonValue>(alloc: Global, value: &V) -> Result<Option<Endpoint>, AllocError> {
         endpoint_of(alloc, value)
     }
 }

@@ -1,9 +1,9 @@
-use Rattle.std.proofs.Common.{◌≡◌, drop}
-use Rattle.serde_json.specs.View.{items_view}
+use Rattle.std.proofs.Common.{◌≡◌, drop, map}
+use Rattle.serde_json.specs.View.{items_of}
 use Rattle.metadata_objects.specs.Reading.{all_of}
 use Rattle.metadata_objects.specs.Generic.{generic_of, generics_of}
 use Rattle.metadata_objects.proofs.Loops.{with_front}
 use Rattle.metadata_objects.proofs.generic.generics_at.Given as goal
 
 abbrev pub invariant-items : goal.invariant-items
-invariant-items l = with_front l.list (all_of generic_of l.path l.i l.so_far (items_view (drop l.i l.items))) ≡ generics_of l.path l.count (items_view l.items)
+invariant-items g l = with_front l.list (all_of generic_of l.path l.i l.so_far (items_of (map g.V.JsonValue.seen (drop l.i l.items)))) ≡ generics_of l.path l.count (items_of (map g.V.JsonValue.seen l.items))

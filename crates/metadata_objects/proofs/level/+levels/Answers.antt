@@ -8,26 +8,26 @@ use Rattle.metadata_objects.proofs.Nesting.{some_left, is_fault, uncounted, too_
 use Rattle.metadata_objects.proofs.level.+levels.Goals as goal
 
 pub path_match_at-returns-in_err-one_more : goal.path_match_at-returns-in_err-one_more
-path_match_at-returns-in_err-one_more t c =
+path_match_at-returns-in_err-one_more g t c =
     let p = err_from_is_err_and c.from_residual.result c.from_residual.ensures.1 in
     rw (p.1, p.2) (is_fault _ _ (uncounted c.args.left c.args.path.now c.args.count _ _ c.if-left-eq0.true (sym c.one_more.ensures ∙ c.in_err-one_more.was)))
 
 pub path_match_at-returns-then-left-eq0 : goal.path_match_at-returns-then-left-eq0
-path_match_at-returns-then-left-eq0 t c = too_deep c.args.left c.args.path.now c.args.count _ _ c.if-left-eq0.true (sym c.one_more.ensures ∙ c.in_ok-one_more.was)
+path_match_at-returns-then-left-eq0 g t c = too_deep c.args.left c.args.path.now c.args.count _ _ c.if-left-eq0.true (sym c.one_more.ensures ∙ c.in_ok-one_more.was)
 
 pub path_match_at-returns : goal.path_match_at-returns
-path_match_at-returns t c = rw (some_left c.args.left _ _ _ (omega arith)) c.path_match_within.ensures
+path_match_at-returns g t c = rw (some_left c.args.left _ _ _ (omega arith)) c.path_match_within.ensures
 
 pub path_matches_at-returns-in_err-path_match : goal.path_matches_at-returns-in_err-path_match
-path_matches_at-returns-in_err-path_match t c =
+path_matches_at-returns-in_err-path_match g t c =
     let p = err_from_is_err_and c.from_residual-in_err-path_match.result c.from_residual-in_err-path_match.ensures.1 in
     let h = rw c.in_ok-place.ensures at c.in_err-path_match.ensures in
-    rw (p.1, p.2) (ends (path_match_of c.args.left) c.args.path.now c.args.items.now c.items.i c.items.so_far (paths_view c.items.list.items) _ c.items.invariant c.index-items-i.result c.items-test.true c.index-items-i.is _ h)
+    rw (p.1, p.2) (ends g.V.JsonValue.seen (path_match_of c.args.left) c.args.path.now c.args.items.now c.items.i c.items.so_far (paths_view c.items.list.items) _ c.items.invariant c.index-items-i.result c.items-test.true c.index-items-i.is _ h)
 
 pub path_matches_at-items-preserved : goal.path_matches_at-items-preserved
-path_matches_at-items-preserved t c =
+path_matches_at-items-preserved g t c =
     let h = rw c.in_ok-place.ensures at c.in_ok-path_match.ensures in
-    rw (c.in-Ok.ensures.items, map-append) (goes_on (path_match_of c.args.left) c.args.path.now c.args.items.now c.items.i c.items.so_far (paths_view c.items.list.items) _ c.items.invariant c.index-items-i.result c.items-test.true c.index-items-i.is _ _ h)
+    rw (c.in-Ok.ensures.items, map-append) (goes_on g.V.JsonValue.seen (path_match_of c.args.left) c.args.path.now c.args.items.now c.items.i c.items.so_far (paths_view c.items.list.items) _ c.items.invariant c.index-items-i.result c.items-test.true c.index-items-i.is _ _ h)
 
 pub path_matches_at-returns : goal.path_matches_at-returns
-path_matches_at-returns t c = is_done (path_match_of c.args.left) c.args.path.now c.args.items.now c.items.i c.items.so_far (paths_view c.items.list.items) _ c.items.invariant c.items-test.false
+path_matches_at-returns g t c = is_done g.V.JsonValue.seen (path_match_of c.args.left) c.args.path.now c.args.items.now c.items.i c.items.so_far (paths_view c.items.list.items) _ c.items.invariant c.items-test.false

@@ -1,5 +1,5 @@
-use Rattle.std.proofs.Common.{◌≡◌, ◌+◌, ◌*◌, drop}
-use Rattle.serde_json.specs.View.{items_view}
+use Rattle.std.proofs.Common.{◌≡◌, ◌+◌, ◌*◌, drop, map}
+use Rattle.serde_json.specs.View.{items_of}
 use Rattle.metadata_objects.specs.Level.{path_match_of}
 use Rattle.metadata_objects.specs.Reading.{all_of}
 use Rattle.metadata_objects.specs.Tree.{paths_view}
@@ -7,22 +7,22 @@ use Rattle.metadata_objects.proofs.Loops.{with_front}
 use Rattle.metadata_objects.proofs.level.+levels.Given as goal
 
 abbrev pub decreases-level_at_member : goal.decreases-level_at_member
-decreases-level_at_member l = l.left * 6 + 5
+decreases-level_at_member g l = l.left * 6 + 5
 
 abbrev pub decreases-level_at : goal.decreases-level_at
-decreases-level_at l = l.left * 6 + 4
+decreases-level_at g l = l.left * 6 + 4
 
 abbrev pub decreases-paths_at : goal.decreases-paths_at
-decreases-paths_at l = l.left * 6 + 3
+decreases-paths_at g l = l.left * 6 + 3
 
 abbrev pub decreases-path_matches_at : goal.decreases-path_matches_at
-decreases-path_matches_at l = l.left * 6 + 2
+decreases-path_matches_at g l = l.left * 6 + 2
 
 abbrev pub decreases-path_match_at : goal.decreases-path_match_at
-decreases-path_match_at l = l.left * 6 + 1
+decreases-path_match_at g l = l.left * 6 + 1
 
 abbrev pub decreases-path_match_within : goal.decreases-path_match_within
-decreases-path_match_within l = l.left * 6 + 6
+decreases-path_match_within g l = l.left * 6 + 6
 
 abbrev pub invariant-path_matches_at-items : goal.invariant-path_matches_at-items
-invariant-path_matches_at-items l = with_front (paths_view l.list.items) (all_of (path_match_of l.left) l.path l.i l.so_far (items_view (drop l.i l.items))) ≡ all_of (path_match_of l.left) l.path 0 l.count (items_view l.items)
+invariant-path_matches_at-items g l = with_front (paths_view l.list.items) (all_of (path_match_of l.left) l.path l.i l.so_far (items_of (map g.V.JsonValue.seen (drop l.i l.items)))) ≡ all_of (path_match_of l.left) l.path 0 l.count (items_of (map g.V.JsonValue.seen l.items))

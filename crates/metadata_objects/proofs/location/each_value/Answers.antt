@@ -4,10 +4,10 @@ use Rattle.metadata_objects.proofs.Loops.{each_goes_on, each_stops, each_done}
 use Rattle.metadata_objects.proofs.location.each_value.Goals as goal
 
 pub returns-in_default : goal.returns-in_default
-returns-in_default c = each_stops (footprint_value_in c.args.kind.now) c.args.items.now c.items.i c.items.list _ c.items.invariant c.index-items-i.result c.items-test.true c.index-items-i.is (sym c.in_default.is ∙ c.value_of.ensures)
+returns-in_default g c = each_stops g.V.JsonValue.seen (footprint_value_in c.args.kind.now) c.args.items.now c.items.i c.items.list _ c.items.invariant c.index-items-i.result c.items-test.true c.index-items-i.is (sym c.in_default.is ∙ c.value_of.ensures)
 
 pub items-preserved : goal.items-preserved
-items-preserved c = rw c.in_ok-push.ensures.ok (each_goes_on (footprint_value_in c.args.kind.now) c.args.items.now c.items.i c.items.list _ c.items.invariant c.index-items-i.result c.items-test.true c.index-items-i.is _ (sym c.in-Some.is ∙ c.value_of.ensures))
+items-preserved g c = rw c.in_ok-push.ensures.ok (each_goes_on g.V.JsonValue.seen (footprint_value_in c.args.kind.now) c.args.items.now c.items.i c.items.list _ c.items.invariant c.index-items-i.result c.items-test.true c.index-items-i.is _ (sym c.in-Some.is ∙ c.value_of.ensures))
 
 pub returns : goal.returns
-returns c = each_done (footprint_value_in c.args.kind.now) c.args.items.now c.items.i c.items.list _ c.items.invariant c.items-test.false
+returns g c = each_done g.V.JsonValue.seen (footprint_value_in c.args.kind.now) c.args.items.now c.items.i c.items.list _ c.items.invariant c.items-test.false

@@ -1,5 +1,5 @@
 -- What a value of the kit's `json` is for `serde_json`.
-use Rattle.std.proofs.Common.{◌≡◌, ℕ, List, [], ◌∷◌, map, Bool, true, false, cond, ◌&&◌, ◌==◌, get_or, drop, Float, ℤ, negsuc, Global, Bor, bytes_eq, true≢false, None, Some, is_some, option_map, option_and_then, unwrap_or, refl, sym, ap, ◌∙◌}
+use Rattle.std.proofs.Common.{◌≡◌, ℕ, List, [], ◌∷◌, map, Bool, true, false, cond, ◌&&◌, ◌==◌, get_or, Float, ℤ, negsuc, Global, Bor, bytes_eq, true≢false, None, Some, is_some, option_map, option_and_then, unwrap_or, refl, sym, ap, ◌∙◌}
 use Rattle.std.specs.declared.option.Option.{Option}
 use Rattle.std.specs.Str.{IsUtf8}
 use Rattle.std.proofs.lemmas.Slice.Eq.{bytes_eq-Decides}
@@ -7,12 +7,12 @@ use Rattle.json.specs.Token.{Token}
 use Rattle.json.specs.Lex as lex
 use Rattle.json.specs.Reads.{Yields}
 use Rattle.json.specs.declared.token.Token as tokens
-use Rattle.fast_float.specs.Text.{Parts, scan}
+use Rattle.fast_float.specs.Text.{scan}
 use Rattle.json.specs.Json as json
 use Rattle.json.specs.Find as looked
 use Rattle.json.specs.Value as values
 use Rattle.json.specs.declared.value.Value.{Value}
-use Rattle.serde_json.specs.Data.{Data, Num, negative, float, number, array, object, Items, item, Members, no_members, put}
+use Rattle.serde_json.specs.Data.{Data, Num, negative, float, number, array, object, item, Members, no_members, put}
 use Rattle.serde_json.specs.Find.{get, get_member, as_u64}
 use Rattle.serde_json.specs.Read.{of_json, of_items, of_members, number_of, number_from}
 use Rattle.serde_json.specs.View.{items_of}

@@ -111,7 +111,7 @@ fn is_number(text: &str) -> bool
 fn is_unsigned_number(numeral: &Numeral<'_>) -> bool
     ensures { result ≡ is_some (number_from false numeral.now) }
 {
-    numeral.to_u64().is_some() || numeral.to_float::<f64>(false).is_finite()
+    whole_unsigned_number(numeral).is_some() || numeral.to_float::<f64>(false).is_finite()
 }
 
 fn is_negative_number(numeral: &Numeral<'_>) -> bool

@@ -105,7 +105,12 @@ pub fn flag_at<V: JsonValue>(alloc: Global, value: &V, path: &JsonPath) -> Resul
 /// # Errors
 /// `WrongKind` at `path` where the value is no whole number from 0 to 2^64 - 1, `OutOfRange` where it is above `max`,
 /// or want of memory.
-pub fn whole_at<V: JsonValue>(alloc: Global, value: &V, path: &JsonPath, max: u64) -> Result<u64, JsonFault>
+pub fn whole_at<V: JsonValue>(
+    alloc: Global,
+    value: &V,
+    path: &JsonPath,
+    max: u64,
+) -> Result<u64, JsonFault>
     ensures { Gives (λ n. n) result (whole_of path.now max (V.seen value.now)) }
 {
     match value.as_u64() {

@@ -1,14 +1,16 @@
 -- Loops over the items of a list: what was read so far, in front of the reading of the rest, is the reading of all.
-use Rattle.std.proofs.Common.{◌≡◌, ℕ, ◌+◌, ◌<◌, ◌≤◌, List, [], ◌∷◌, ◌++◌, length, map, drop, get_or, refl, sym, ◌∙◌, ap, None, Some, Ok, Err, append_assoc, append-nil, add-one, drop-cons}
+use Rattle.std.proofs.Common.{◌≡◌, ℕ, ◌+◌, ◌<◌, ◌≤◌, List, [], ◌∷◌, ◌++◌, length, map, drop, get_or, refl, sym, ◌∙◌, ap, None, Some, Ok, Err, append_assoc, append-nil, add-one, drop-cons, true, false, true≢false, unwrap_or}
+use Rattle.std.specs.List.{flat_map}
 use Rattle.std.specs.Option.{option_map}
 use Rattle.std.specs.declared.option.Option.{Option}
 use Rattle.std.proofs.lemmas.List.{drop_all}
+use Rattle.std.proofs.lemmas.Option.{none-some}
 use Rattle.serde_json.specs.Data.{Data, Items, no_items, item}
 use Rattle.serde_json.specs.View.{items_of}
 use Rattle.json_read.specs.Field.{◌>>=◌}
 use Rattle.json_read.specs.Path.{item_of}
 use Rattle.metadata_objects.specs.Reading.{Reading, all_of, Fails}
-use Rattle.metadata_objects.specs.Items.{each_of}
+use Rattle.metadata_objects.specs.Items.{each_of, Adds}
 use Rattle.metadata_objects.specs.declared.fault.MetaFault.{MetaFault}
 use Rattle.metadata_objects.specs.declared.fault.MetaFault.TheVariants.{TooLong, NotJson, Link, Field, TooMany, TooDeep, Memory}
 
@@ -108,3 +110,59 @@ module _ {A V : Type 0} (seen : V → Data) (read : Data → Option A) (values :
   pub each_done : after_front front (each_of read (items_of (map seen (drop i values)))) ≡ whole → length values ≤ i → Some front ≡ whole
   unfolding each_of
   each_done so_far over = ap Some (sym (append-nil front)) ∙ ap (λ items. after_front front (each_of read items)) (sym (item_none seen values i over)) ∙ so_far
+
+-- items that are added to a list
+pub were_added : {A : Type 0} (before after : List A) (found : Option (List A)) → Some after ≡ after_front before found → Adds before true after found
+were_added before after None is = absurd (none-some _ (sym is))
+were_added before after (Some items) is = (refl, ap (λ o. unwrap_or o after) is)
+
+pub were_not_added : {A : Type 0} (before after : List A) (found : Option (List A)) → None ≡ after_front before found → Adds before false after found
+were_not_added before after None is = refl
+were_not_added before after (Some items) is = absurd (none-some _ is)
+
+added_list : {A : Type 0} (before after : List A) (found : Option (List A)) → Adds before true after found → (items : List A) × (found ≡ Some items) × (after ≡ before ++ items)
+added_list before after None is = absurd (true≢false is)
+added_list before after (Some items) is = (items, refl, is.1)
+
+not_added : {A : Type 0} (before after : List A) (found : Option (List A)) → Adds before false after found → found ≡ None
+not_added before after None is = refl
+not_added before after (Some items) is = absurd (true≢false (sym is.0))
+
+-- lists of items that are joined
+abbrev pub after_joined : {A : Type 0} → List A → Option (List (List A)) → Option (List A)
+after_joined front rest = option_map (λ lists. front ++ flat_map (λ list. list) lists) rest
+
+joined_moves : {A : Type 0} (front list : List A) (rest : Option (List (List A)))
+    → after_joined front (option_map (λ others. list ∷ others) rest) ≡ after_joined (front ++ list) rest
+joined_moves front list None = refl
+joined_moves front list (Some rest) = ap Some (sym (append_assoc front list (flat_map (λ l. l) rest)))
+
+none_joined : {A : Type 0} (rest : Option (List (List A))) → after_joined [] rest ≡ option_map (flat_map (λ list. list)) rest
+none_joined None = refl
+none_joined (Some rest) = refl
+
+module _ {A V : Type 0} (seen : V → Data) (read : Data → Option (List A)) (values : List V) (i : ℕ) (front : List A) (whole : Option (List A)) where
+  joined_read : (value : Data) (rest : Items) (list : List A) → read value ≡ Some list
+      → after_joined front (each_of read (item value rest)) ≡ after_joined (front ++ list) (each_of read rest)
+  unfolding each_of
+  joined_read value rest list is = rw is (joined_moves front list (each_of read rest))
+
+  joined_unread : (value : Data) (rest : Items) → read value ≡ None → after_joined front (each_of read (item value rest)) ≡ None
+  unfolding each_of
+  joined_unread value rest is = rw is refl
+
+  pub joined_goes_on : after_joined front (each_of read (items_of (map seen (drop i values)))) ≡ whole
+      → (value : V) → i < length values → value ≡ get_or values i value → (new : List A) → Adds front true new (read (seen value))
+      → after_joined new (each_of read (items_of (map seen (drop (i + 1) values)))) ≡ whole
+  joined_goes_on so_far value below is new added = let one = added_list front new _ added in
+      rw one.2 (sym (joined_read (seen value) (items_of (map seen (drop (i + 1) values))) one.0 one.1))
+      ∙ ap (λ items. after_joined front (each_of read items)) (sym (item_here seen values i value below is)) ∙ so_far
+
+  pub joined_stops : after_joined front (each_of read (items_of (map seen (drop i values)))) ≡ whole
+      → (value : V) → i < length values → value ≡ get_or values i value → (new : List A) → Adds front false new (read (seen value)) → None ≡ whole
+  joined_stops so_far value below is new none = sym (joined_unread (seen value) (items_of (map seen (drop (i + 1) values))) (not_added front new _ none))
+      ∙ ap (λ items. after_joined front (each_of read items)) (sym (item_here seen values i value below is)) ∙ so_far
+
+  pub joined_done : after_joined front (each_of read (items_of (map seen (drop i values)))) ≡ whole → length values ≤ i → Some front ≡ whole
+  unfolding each_of
+  joined_done so_far over = ap Some (sym (append-nil front)) ∙ ap (λ items. after_joined front (each_of read items)) (sym (item_none seen values i over)) ∙ so_far

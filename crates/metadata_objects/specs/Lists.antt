@@ -63,8 +63,12 @@ unfoldable pub footprints_in : Data → Option (List Footprint)
 footprints_in value = get (codes "footprint-type") value >>= λ member. as_str member >>= λ kind.
     get (codes "footprint-value") value >>= λ list. as_array list >>= λ items. footprints_of_type kind items
 
+-- the footprints of all these lists, in order
+abbrev pub joined : List (List Footprint) → List Footprint
+joined lists = flat_map (λ list. list) lists
+
 unfoldable pub location_rule_in : Data → Option LocationRule
-location_rule_in value = listed_in footprints_in (codes "footprints") value >>= λ lists. action_in value >>= λ allow. Some (record { footprints = flat_map (λ list. list) lists; allow = allow })
+location_rule_in value = listed_in footprints_in (codes "footprints") value >>= λ lists. action_in value >>= λ allow. Some (record { footprints = joined lists; allow = allow })
 
 unfoldable pub locations_in : Data → Option (Option (List LocationRule))
 locations_in value = rules_in location_rule_in (codes "locations") value >>= few_rules

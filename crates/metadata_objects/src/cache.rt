@@ -12,7 +12,10 @@ use std::alloc::{AllocError, Global};
 
 // which part of the query does not count, if the value reads
 #[tactic(auto, unfolding(crate::specs::Cache::ignored_in))]
-pub(crate) fn ignored_of<V: JsonValue>(alloc: Global, value: &V) -> Result<Option<Ignored>, AllocError>
+pub(crate) fn ignored_of<V: JsonValue>(
+    alloc: Global,
+    value: &V,
+) -> Result<Option<Ignored>, AllocError>
     ensures { IfOk result (λ found. found ≡ ignored_in (V.seen value.now)) }
 {
     if !value.is_object() {
@@ -63,7 +66,10 @@ fn lowered(alloc: Global, text: &Text) -> Result<Text, AllocError>
 
 // the ccid of a group, which may be absent, if the value reads
 #[tactic(auto, unfolding(crate::specs::Cache::grouping_in))]
-pub(crate) fn grouping_of<V: JsonValue>(alloc: Global, value: &V) -> Result<Option<Option<Text>>, AllocError>
+pub(crate) fn grouping_of<V: JsonValue>(
+    alloc: Global,
+    value: &V,
+) -> Result<Option<Option<Text>>, AllocError>
     ensures { IfOk result (λ found. found ≡ grouping_in (V.seen value.now)) }
 {
     if !value.is_object() {

@@ -68,7 +68,10 @@ pub(crate) fn rules<T: Item, V: JsonValue>(
 
 // the time list of a value, if it reads
 #[tactic(auto, unfolding(crate::specs::Lists::times_in))]
-pub(crate) fn times_of<V: JsonValue>(alloc: Global, value: &V) -> Result<Option<TimeWindowAcl>, AllocError>
+pub(crate) fn times_of<V: JsonValue>(
+    alloc: Global,
+    value: &V,
+) -> Result<Option<TimeWindowAcl>, AllocError>
     ensures { IfOk result (λ found. found ≡ times_in (V.seen value.now)) }
 {
     match rules::<TimeRule, V>(alloc, value, "times")? {
@@ -79,7 +82,10 @@ pub(crate) fn times_of<V: JsonValue>(alloc: Global, value: &V) -> Result<Option<
 
 // the protocol list of a value, if it reads
 #[tactic(auto, unfolding(crate::specs::Lists::protocols_in))]
-pub(crate) fn protocols_of<V: JsonValue>(alloc: Global, value: &V) -> Result<Option<ProtocolAcl>, AllocError>
+pub(crate) fn protocols_of<V: JsonValue>(
+    alloc: Global,
+    value: &V,
+) -> Result<Option<ProtocolAcl>, AllocError>
     ensures { IfOk result (λ found. found ≡ protocols_in (V.seen value.now)) }
 {
     match rules::<ProtocolRule, V>(alloc, value, "protocol-acl")? {
@@ -122,7 +128,10 @@ fn time_rule_of<V: JsonValue>(alloc: Global, value: &V) -> Result<Option<TimeRul
 }
 
 #[tactic(auto, unfolding(crate::specs::Lists::protocol_rule_in))]
-fn protocol_rule_of<V: JsonValue>(alloc: Global, value: &V) -> Result<Option<ProtocolRule>, AllocError>
+fn protocol_rule_of<V: JsonValue>(
+    alloc: Global,
+    value: &V,
+) -> Result<Option<ProtocolRule>, AllocError>
     ensures { IfOk result (λ found. found ≡ protocol_rule_in (V.seen value.now)) }
 {
     let Some(protocols) = listed::<Text, V>(alloc, value, "protocols")? else {
@@ -139,7 +148,10 @@ impl Item for TimeWindow {
 
     ghost reads = { window_in };
 
-    fn read_item<V: JsonValue>(_alloc: Global, value: &V) -> Result<Option<TimeWindow>, AllocError> {
+    fn read_item<V: JsonValue>(
+        _alloc: Global,
+        value: &V,
+    ) -> Result<Option<TimeWindow>, AllocError> {
         Ok(window_of(value))
     }
 }
@@ -159,7 +171,10 @@ impl Item for ProtocolRule {
 
     ghost reads = { protocol_rule_in };
 
-    fn read_item<V: JsonValue>(alloc: Global, value: &V) -> Result<Option<ProtocolRule>, AllocError> {
+    fn read_item<V: JsonValue>(
+        alloc: Global,
+        value: &V,
+    ) -> Result<Option<ProtocolRule>, AllocError> {
         protocol_rule_of(alloc, value)
     }
 }

@@ -1,13 +1,12 @@
 //! The value of MI.LocationACL (RFC 8006, section 4.2.2).
 
-ghost use Rattle.std.specs.Prelude.{◌≡◌, ◌++◌, IfOk, OnOk, map};
-ghost use Rattle.std.specs.List.{flat_map};
+ghost use Rattle.std.specs.Prelude.{◌≡◌, IfOk, codes, map, option_map};
 ghost use Rattle.serde_json.specs.View.{items_of};
-ghost use Rattle.metadata_objects.specs.Items.{each_of};
-ghost use Rattle.metadata_objects.specs.Lists.{is_footprint_type, footprint_value_in, footprints_of_type, footprints_in, location_rule_in, locations_in};
+ghost use Rattle.metadata_objects.specs.Items.{each_of, Adds};
+ghost use Rattle.metadata_objects.specs.Lists.{is_footprint_type, footprint_value_in, footprints_in, joined, listed_in, location_rule_in, locations_in};
 
 use crate::items::Item;
-use crate::lists::{action_of, listed, rules};
+use crate::lists::{action_of, rules};
 use cdni_base::Listing;
 use json_read::JsonValue;
 use location_acl::{Footprint, FootprintList, LocationAcl, LocationRule};
@@ -15,7 +14,10 @@ use std::alloc::{AllocError, Global};
 
 // the location list of a value, if it reads
 #[tactic(auto, unfolding(crate::specs::Lists::locations_in))]
-pub(crate) fn locations_of<V: JsonValue>(alloc: Global, value: &V) -> Result<Option<LocationAcl>, AllocError>
+pub(crate) fn locations_of<V: JsonValue>(
+    alloc: Global,
+    value: &V,
+) -> Result<Option<LocationAcl>, AllocError>
     ensures { IfOk result (λ found. found ≡ locations_in (V.seen value.now)) }
 {
     match rules::<LocationRule, V>(alloc, value, "locations")? {
@@ -25,66 +27,62 @@ pub(crate) fn locations_of<V: JsonValue>(alloc: Global, value: &V) -> Result<Opt
 }
 
 #[tactic(auto, unfolding(crate::specs::Lists::location_rule_in))]
-fn location_rule_of<V: JsonValue>(alloc: Global, value: &V) -> Result<Option<LocationRule>, AllocError>
+fn location_rule_of<V: JsonValue>(
+    alloc: Global,
+    value: &V,
+) -> Result<Option<LocationRule>, AllocError>
     ensures { IfOk result (λ found. found ≡ location_rule_in (V.seen value.now)) }
 {
-    let Some(lists) = listed::<FootprintList, V>(alloc, value, "footprints")? else {
+    let Some(footprints) = footprints_of(alloc, value)? else {
         return Ok(None);
     };
     let Some(allow) = action_of(value) else {
         return Ok(None);
     };
-    Ok(Some(LocationRule {
-        footprints: joined(alloc, lists.as_slice())?,
-        allow,
-    }))
+    Ok(Some(LocationRule { footprints, allow }))
 }
 
-// the footprints of all these lists, in order
-fn joined(alloc: Global, lists: &[FootprintList]) -> Result<FootprintList, AllocError>
-    ensures { IfOk result (λ all. all ≡ flat_map (λ list. list) lists.now) }
+// the footprints of all the objects of a rule, in order, if each of them reads
+#[tactic(auto, unfolding(crate::specs::Lists::listed_in))]
+fn footprints_of<V: JsonValue>(
+    alloc: Global,
+    value: &V,
+) -> Result<Option<FootprintList>, AllocError>
+    ensures { IfOk result (λ found. found ≡ option_map joined (listed_in footprints_in (codes "footprints") (V.seen value.now))) }
+{
+    match value.get("footprints").and_then(V::as_array) {
+        Some(items) => joined(alloc, items),
+        None => Ok(None),
+    }
+}
+
+fn joined<V: JsonValue>(alloc: Global, items: &[V]) -> Result<Option<FootprintList>, AllocError>
+    ensures { IfOk result (λ found. found ≡ option_map joined (each_of footprints_in (items_of (map V.seen items.now)))) }
 {
     let mut all = Listing::new(alloc);
-    'lists: for list in lists {
-        add(&mut all, list)?;
+    'items: for i in 0..items.len() {
+        if !add_footprints(&mut all, &items[i])? {
+            return Ok(None);
+        }
     }
-    Ok(all)
+    Ok(Some(all))
 }
 
-fn add(all: &mut FootprintList, list: &FootprintList) -> Result<(), AllocError>
-    ensures { OnOk result (all.new ≡ all.old ++ list.now) }
-{
-    'footprints: for footprint in list.as_slice() {
-        all.push(*footprint)?;
-    }
-    Ok(())
-}
-
-// the values of a footprint, each as a footprint of its own
+// adds the values of a footprint, each as a footprint of its own, and tells whether they read
 #[tactic(auto, unfolding(crate::specs::Lists::footprints_in))]
-fn footprints_of<V: JsonValue>(alloc: Global, value: &V) -> Result<Option<FootprintList>, AllocError>
-    ensures { IfOk result (λ found. found ≡ footprints_in (V.seen value.now)) }
+fn add_footprints<V: JsonValue>(all: &mut FootprintList, value: &V) -> Result<bool, AllocError>
+    ensures { IfOk result (λ added. Adds all.old added all.new (footprints_in (V.seen value.now))) }
 {
     let Some(kind) = value.get("footprint-type").and_then(V::as_str) else {
-        return Ok(None);
+        return Ok(false);
     };
     let Some(items) = value.get("footprint-value").and_then(V::as_array) else {
-        return Ok(None);
+        return Ok(false);
     };
-    footprints_of_type(alloc, kind.as_bytes(), items)
-}
-
-fn footprints_of_type<V: JsonValue>(
-    alloc: Global,
-    kind: &[u8],
-    items: &[V],
-) -> Result<Option<FootprintList>, AllocError>
-    ensures { IfOk result (λ found. found ≡ footprints_of_type kind.now (items_of (map V.seen items.now))) }
-{
-    if !is_footprint_type(kind) {
-        return Ok(None);
+    if !is_footprint_type(kind.as_bytes()) {
+        return Ok(false);
     }
-    each_value(alloc, kind, items)
+    add_values(all, kind.as_bytes(), items)
 }
 
 fn is_footprint_type(kind: &[u8]) -> bool
@@ -96,22 +94,21 @@ fn is_footprint_type(kind: &[u8]) -> bool
         || kind == b"countrycode".as_slice()
 }
 
-// the values of footprints of this type, if each of them reads
-fn each_value<V: JsonValue>(
-    alloc: Global,
+// adds the values of footprints of this type, and tells whether each of them read
+fn add_values<V: JsonValue>(
+    all: &mut FootprintList,
     kind: &[u8],
     items: &[V],
-) -> Result<Option<FootprintList>, AllocError>
-    ensures { IfOk result (λ found. found ≡ each_of (footprint_value_in kind.now) (items_of (map V.seen items.now))) }
+) -> Result<bool, AllocError>
+    ensures { IfOk result (λ added. Adds all.old added all.new (each_of (footprint_value_in kind.now) (items_of (map V.seen items.now)))) }
 {
-    let mut list = Listing::new(alloc);
     'items: for i in 0..items.len() {
         let Some(footprint) = value_of(kind, &items[i]) else {
-            return Ok(None);
+            return Ok(false);
         };
-        list.push(footprint)?;
+        all.push(footprint)?;
     }
-    Ok(Some(list))
+    Ok(true)
 }
 
 #[tactic(auto, unfolding(crate::specs::Lists::footprint_value_in))]
@@ -129,17 +126,10 @@ impl Item for LocationRule {
 
     ghost reads = { location_rule_in };
 
-    fn read_item<V: JsonValue>(alloc: Global, value: &V) -> Result<Option<LocationRule>, AllocError> {
+    fn read_item<V: JsonValue>(
+        alloc: Global,
+        value: &V,
+    ) -> Result<Option<LocationRule>, AllocError> {
         location_rule_of(alloc, value)
-    }
-}
-
-impl Item for FootprintList {
-    ghost use Rattle.metadata_objects.specs.Lists.{footprints_in};
-
-    ghost reads = { footprints_in };
-
-    fn read_item<V: JsonValue>(alloc: Global, value: &V) -> Result<Option<FootprintList>, AllocError> {
-        footprints_of(alloc, value)
     }
 }

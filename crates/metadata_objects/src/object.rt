@@ -20,7 +20,11 @@ pub(crate) fn one_more(count: u32) -> Result<u32, MetaFault>
 }
 
 // refuses a Link
-pub(crate) fn refuse_link<V: JsonValue>(alloc: Global, value: &V, path: &JsonPath) -> Result<(), MetaFault>
+pub(crate) fn refuse_link<V: JsonValue>(
+    alloc: Global,
+    value: &V,
+    path: &JsonPath,
+) -> Result<(), MetaFault>
     ensures { Gives (λ nothing. nothing) result (no_link path.now (V.seen value.now)) }
 {
     if value.get("href").is_some() {

@@ -10,7 +10,10 @@ use std::alloc::{AllocError, Global};
 
 // the sources of the value, if it reads
 #[tactic(auto, unfolding(crate::specs::Source::sources_in))]
-pub(crate) fn sources_of<V: JsonValue>(alloc: Global, value: &V) -> Result<Option<SourceItemList>, AllocError>
+pub(crate) fn sources_of<V: JsonValue>(
+    alloc: Global,
+    value: &V,
+) -> Result<Option<SourceItemList>, AllocError>
     ensures { IfOk result (λ found. found ≡ sources_in (V.seen value.now)) }
 {
     if !value.is_object() {

@@ -8,7 +8,7 @@ use Rattle.std.specs.Option.{option_map}
 use Rattle.listing.specs.Word.{parts_at}
 use Rattle.cdni_base.specs.declared.key.Ignored.TheVariants as ignored
 use Rattle.cdni_base.specs.declared.target.Target.{Target}
-use Rattle.cdni_base.specs.Key.{pieces_of, joined, is_kept, key_of, AreIgnored}
+use Rattle.cdni_base.specs.Key.{KeyParts, pieces_of, joined, is_kept, key_of, AreIgnored, IsSameBut}
 
 abbrev is_cut : ℕ → Bool
 is_cut byte = byte == 38
@@ -178,3 +178,16 @@ pub same_key : (target : Target) (query : Option (List ℕ)) (names front some o
 same_key target query names front some others back one other are also =
     let kept : filter (is_kept names) (pieces_of query) ≡ filter (is_kept names) (pieces_of target.query) = ap (filter (is_kept names)) other ∙ ignored_between names front others back also ∙ sym (ap (filter (is_kept names)) one ∙ ignored_between names front some back are) in
     ap (λ (q : Option (List ℕ)). record { host = target.host; port = target.port; path = target.path; query = q; ignored = ignored.Names names }) (ap joined kept)
+
+-- keys are the same exactly where the targets are, but for ignored pieces
+pub told_apart : (target other : Target) (names : List (List ℕ)) → (key_of target (ignored.Names names) ≡ key_of other (ignored.Names names)) ↔ IsSameBut names target other
+told_apart target other names =
+    let kept : (query : Option (List ℕ)) → List (List ℕ) = λ query. filter (is_kept names) (pieces_of query) in (
+      λ same. let queries : joined (kept target.query) ≡ joined (kept other.query) = ap (λ (k : KeyParts). k.query) same in (
+        ap (λ (k : KeyParts). k.host) same,
+        ap (λ (k : KeyParts). k.port) same,
+        ap (λ (k : KeyParts). k.path) same,
+        (joined_is (is_kept names) target.query (joined (kept other.query))).0 queries ∙ sym ((joined_is (is_kept names) other.query (joined (kept other.query))).0 refl),
+      ),
+      λ parts. rw (parts.0, parts.1, parts.2, parts.3) refl,
+    )

@@ -1,5 +1,5 @@
 -- Cache keys: what of a target tells one kept object from another.
-use Rattle.std.specs.Prelude.{ℕ, Bool, true, false, not, List, [], ◌∷◌, filter, None, Some, bytes_eq, ◌==◌, IsTrue}
+use Rattle.std.specs.Prelude.{◌≡◌, ℕ, Bool, true, false, not, List, [], ◌∷◌, filter, None, Some, bytes_eq, ◌==◌, IsTrue}
 use Rattle.std.specs.List.{slice_split, before_first, join_with_byte, list_any, list_all}
 use Rattle.std.specs.Str.{str_to_ascii_lowercase}
 use Rattle.std.specs.declared.option.Option.{Option}
@@ -53,3 +53,8 @@ key_text secure false key = url_of secure key.host key.port key.path None
 -- the name of each of these pieces is one of the names
 abbrev pub AreIgnored : List (List ℕ) → List (List ℕ) → Type 0
 AreIgnored names pieces = IsTrue (list_all (λ piece. not (is_kept names piece)) pieces)
+
+-- the targets are the same but for pieces with these names
+abbrev pub IsSameBut : List (List ℕ) → Target → Target → Type 0
+IsSameBut names target other = (target.host ≡ other.host) × (target.port ≡ other.port) × (target.path ≡ other.path)
+    × (filter (is_kept names) (pieces_of target.query) ≡ filter (is_kept names) (pieces_of other.query))

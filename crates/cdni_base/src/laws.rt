@@ -1,13 +1,13 @@
 //! What the definitions mean, as laws above them. Each function does nothing: its contract is the law.
 
-ghost use Rattle.std.specs.Prelude.{◌≡◌, ◌≢◌, ◌≤◌, ◌++◌, Bool, true, List, ℕ, length};
+ghost use Rattle.std.specs.Prelude.{◌≡◌, ◌≢◌, ◌≤◌, ◌↔◌, ◌++◌, Bool, true, List, ℕ, length};
 ghost use Rattle.std.specs.declared.option.Option.{Option};
 ghost use Rattle.cdni_base.specs.declared.endpoint.Endpoint.{Endpoint};
 ghost use Rattle.cdni_base.specs.declared.target.Target.{Target};
 ghost use Rattle.cdni_base.specs.declared.provider.ProviderId.{ProviderId};
 ghost use Rattle.cdni_base.specs.Grammar.{IsEndpoint, IsTarget};
 ghost use Rattle.cdni_base.specs.declared.key.Ignored.TheVariants.{Names};
-ghost use Rattle.cdni_base.specs.Key.{pieces_of, key_of, AreIgnored};
+ghost use Rattle.cdni_base.specs.Key.{pieces_of, key_of, AreIgnored, IsSameBut};
 ghost use Rattle.cdni_base.specs.Provider.{IsProviderId};
 ghost use Rattle.cdni_base.specs.Target.{url_text};
 
@@ -41,4 +41,11 @@ pub fn ignored_pieces_play_no_part_in_a_key()
         pieces_of target.query ≡ front ++ some ++ back → pieces_of query ≡ front ++ others ++ back →
         AreIgnored names some → AreIgnored names others →
         key_of (record target { query = query }) (Names names) ≡ key_of target (Names names) }
+{}
+
+/// Two targets have one key exactly where their hosts, ports and paths are the same, and of their queries the same pieces
+/// are kept in the same order.
+pub fn kept_pieces_tell_keys_apart()
+    ensures { (target other : Target) (names : List (List ℕ)) →
+        (key_of target (Names names) ≡ key_of other (Names names)) ↔ IsSameBut names target other }
 {}

@@ -11,8 +11,6 @@ mod provider;
 mod rule;
 mod scratch;
 mod target;
-#[cfg(test)]
-mod tests;
 mod url;
 
 pub use body::Body;

@@ -49,37 +49,51 @@ impl Rule {
         }
     }
 
+    /// The text of the denial in two parts: the rule's word, and the type or number behind it, for which there is room in
+    /// `digits`.
+    pub fn text<'a>(&'a self, digits: &'a mut Buffer) -> (&'static [u8], &'a [u8])
+        ensures { result.0.now ++ result.1.now ≡ rule_text self.now }
+    {
+        match self {
+            Rule::Method => (b"method", b""),
+            Rule::NoMetadata => (b"no-metadata", b""),
+            Rule::MetadataInvalid { trigger } => {
+                (b"metadata-invalid ", number_or_dash(Some(*trigger), digits))
+            }
+            Rule::NoHost => (b"no-host", b""),
+            Rule::Unenforceable { kind } => (b"unenforceable ", kind.bytes()),
+            Rule::Location { rule } => (b"location ", rule_or_dash(*rule, digits)),
+            Rule::Time { rule } => (b"time ", rule_or_dash(*rule, digits)),
+            Rule::Protocol { rule } => (b"protocol ", rule_or_dash(*rule, digits)),
+            Rule::NoSource => (b"no-source", b""),
+        }
+    }
+
     /// Puts the text of the denial into `out`. False exactly where it does not fit; then nothing changes.
     pub fn put(&self, out: &mut Scratch) -> bool
         ensures { Puts out.old out.new (rule_text self.now) result }
     {
-        match self {
-            Rule::Method => out.append(b"method"),
-            Rule::NoMetadata => out.append(b"no-metadata"),
-            Rule::MetadataInvalid { trigger } => put_numbered(
-                out,
-                b"metadata-invalid ",
-                Some(*trigger),
-            ),
-            Rule::NoHost => out.append(b"no-host"),
-            Rule::Unenforceable { kind } => out.append_two(b"unenforceable ", kind.bytes()),
-            Rule::Location { rule } => put_numbered(out, b"location ", rule.map(|n| n as u64)),
-            Rule::Time { rule } => put_numbered(out, b"time ", rule.map(|n| n as u64)),
-            Rule::Protocol { rule } => put_numbered(out, b"protocol ", rule.map(|n| n as u64)),
-            Rule::NoSource => out.append(b"no-source"),
-        }
+        let mut digits = Buffer::new();
+        let (word, rest) = self.text(&mut digits);
+        out.append_two(word, rest)
     }
 }
 
-// a word and a number, or `-` for none
-fn put_numbered(out: &mut Scratch, word: &[u8], number: Option<u64>) -> bool
-    ensures { Puts out.old out.new (word.now ++ number_or_dash number) result }
+// the number of a rule of a list, or `-` for none
+fn rule_or_dash(rule: Option<u32>, digits: &mut Buffer) -> &[u8]
+    ensures { result.now ≡ number_or_dash rule }
+{
+    match rule {
+        Some(rule) => number_or_dash(Some(rule as u64), digits),
+        None => number_or_dash(None, digits),
+    }
+}
+
+fn number_or_dash(number: Option<u64>, digits: &mut Buffer) -> &[u8]
+    ensures { result.now ≡ number_or_dash number }
 {
     match number {
-        Some(number) => {
-            let mut digits = Buffer::new();
-            out.append_two(word, digits.format(number).as_bytes())
-        }
-        None => out.append_two(word, b"-"),
+        Some(number) => digits.format(number).as_bytes(),
+        None => b"-",
     }
 }

@@ -1,7 +1,7 @@
 //! The answer lines of a script.
 
 ghost use Rattle.std.specs.Prelude.{◌≡◌, ◌++◌, ◌∷◌, [], OnOk, codes, decimal};
-ghost use Rattle.cdni_base.specs.Rule.{number_or_dash, rule_status, rule_text};
+ghost use Rattle.cdni_base.specs.Rule.{rule_status, rule_text};
 ghost use Rattle.http_node.specs.Answer.{numbered, endpoint_text, plan_text, cause_text, fault_text, failed_line, answer_line};
 
 use crate::call::Reply;
@@ -74,12 +74,12 @@ fn put_fault(out: &mut Vec<u8>, fault: &MetaFault) -> Result<(), AllocError>
     ensures { OnOk result (out.new.items ≡ out.old.items ++ fault_text fault.now) }
 {
     match fault {
-        MetaFault::TooLong { len } => put_word_number(out, b"too-long ", Some(*len as u64)),
+        MetaFault::TooLong { len } => put_word_number(out, b"too-long ", *len as u64),
         MetaFault::NotJson => put(out, b"not-json"),
         MetaFault::Link { path } => put_two(out, b"link ", path.bytes()),
         MetaFault::Field(field) => put_field(out, field),
-        MetaFault::TooMany { n } => put_word_number(out, b"too-many ", Some(*n as u64)),
-        MetaFault::TooDeep { n } => put_word_number(out, b"too-deep ", Some(*n as u64)),
+        MetaFault::TooMany { n } => put_word_number(out, b"too-many ", *n as u64),
+        MetaFault::TooDeep { n } => put_word_number(out, b"too-deep ", *n as u64),
         MetaFault::Memory => Ok(()),
     }
 }
@@ -118,21 +118,9 @@ fn put_denied(out: &mut Vec<u8>, delivery: u64, rule: &Rule) -> Result<(), Alloc
 fn put_rule(out: &mut Vec<u8>, rule: &Rule) -> Result<(), AllocError>
     ensures { OnOk result (out.new.items ≡ out.old.items ++ rule_text rule.now) }
 {
-    match rule {
-        Rule::Method => put(out, b"method"),
-        Rule::NoMetadata => put(out, b"no-metadata"),
-        Rule::MetadataInvalid { trigger } => put_word_number(
-            out,
-            b"metadata-invalid ",
-            Some(*trigger),
-        ),
-        Rule::NoHost => put(out, b"no-host"),
-        Rule::Unenforceable { kind } => put_two(out, b"unenforceable ", kind.bytes()),
-        Rule::Location { rule } => put_word_number(out, b"location ", rule.map(|n| n as u64)),
-        Rule::Time { rule } => put_word_number(out, b"time ", rule.map(|n| n as u64)),
-        Rule::Protocol { rule } => put_word_number(out, b"protocol ", rule.map(|n| n as u64)),
-        Rule::NoSource => put(out, b"no-source"),
-    }
+    let mut digits = Buffer::new();
+    let (word, rest) = rule.text(&mut digits);
+    put_two(out, word, rest)
 }
 
 fn put_two(out: &mut Vec<u8>, first: &[u8], second: &[u8]) -> Result<(), AllocError>
@@ -142,14 +130,11 @@ fn put_two(out: &mut Vec<u8>, first: &[u8], second: &[u8]) -> Result<(), AllocEr
     put(out, second)
 }
 
-fn put_word_number(out: &mut Vec<u8>, word: &[u8], number: Option<u64>) -> Result<(), AllocError>
-    ensures { OnOk result (out.new.items ≡ out.old.items ++ (word.now ++ number_or_dash number)) }
+fn put_word_number(out: &mut Vec<u8>, word: &[u8], number: u64) -> Result<(), AllocError>
+    ensures { OnOk result (out.new.items ≡ out.old.items ++ (word.now ++ decimal number)) }
 {
     put(out, word)?;
-    match number {
-        Some(number) => put_number(out, number),
-        None => put(out, b"-"),
-    }
+    put_number(out, number)
 }
 
 fn put_miss(

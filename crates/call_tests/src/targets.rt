@@ -1,7 +1,6 @@
-//! What no clause says: outside examples of targets, keys and provider ids, each limit and one more, and each call once
-//! where there is memory.
+//! Targets, keys, provider ids and bodies: outside examples, and each limit and one more.
 
-use crate::{
+use cdni_base::{
     Body, Endpoint, EndpointFault, Ignored, Key, ProviderFault, ProviderId, Target, TargetFault,
     Text, TextList, laws, url_key,
 };
@@ -457,4 +456,5 @@ fn laws_are_cited() {
     laws::a_text_has_one_provider_id();
     laws::a_url_is_read_again_as_its_target();
     laws::ignored_pieces_play_no_part_in_a_key();
+    laws::kept_pieces_tell_keys_apart();
 }

@@ -9,4 +9,6 @@ mod json;
 #[cfg(test)]
 mod metadata;
 #[cfg(test)]
+mod places;
+#[cfg(test)]
 mod targets;

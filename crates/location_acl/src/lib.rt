@@ -13,8 +13,6 @@ mod line;
 pub mod plain;
 mod six;
 mod table;
-#[cfg(test)]
-mod tests;
 
 pub use acl::{FootprintList, LocationAcl, LocationRule, LocationRuleList};
 pub use block::{Block, BlockFault};

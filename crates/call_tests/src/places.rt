@@ -1,6 +1,6 @@
 //! Texts of addresses, blocks and footprints from the standards, which rule decides, and a place file.
 
-use crate::{
+use location_acl::{
     AddressFault, Block, BlockFault, Footprint, FootprintList, Ip, LocationAcl, LocationRule,
     LocationRuleList, Place, PlaceFault, PlaceTable, laws, plain,
 };

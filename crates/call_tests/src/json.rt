@@ -1,8 +1,9 @@
 //! JSON texts and the fields of their values.
 
+use crate::readers::{is_borrowed_json, is_json, readers_agree};
 use json_read::{
-    FieldCause, JsonFault, JsonPath, JsonScratch, JsonValue, ParseFault, flag_at, list_at, maybe,
-    need, parse, parse_borrowed, text_at, whole_at,
+    FieldCause, JsonFault, JsonPath, JsonScratch, JsonValue, flag_at, list_at, maybe, need, parse,
+    parse_borrowed, text_at, whole_at,
 };
 use std::alloc::Global;
 use std::process::Abort;
@@ -16,17 +17,6 @@ fn fault_of<T: Drop>(
     match read {
         Err(JsonFault::Field(fault)) => Ok((fault.path.bytes().to_vec(alloc)?, fault.cause)),
         _ => Err(Fail::from("a field's fault")),
-    }
-}
-
-// whether both readers take the bytes for a JSON text, if they agree
-fn is_json(alloc: Global, bytes: &[u8]) -> Result<bool, Fail> {
-    let mut scratch = JsonScratch::new(alloc);
-    let borrowed = parse_borrowed(alloc, bytes, &mut scratch);
-    match (parse(alloc, bytes), borrowed) {
-        (Ok(_), Ok(_)) => Ok(true),
-        (Err(ParseFault::NotJson), Err(ParseFault::NotJson)) => Ok(false),
-        _ => Err(Fail::from("one answer of both readers")),
     }
 }
 
@@ -50,14 +40,16 @@ fn texts_of_json(rt: HostRuntime) -> Result<(), Fail> {
         (" [1, \"x\"]\r\n", true),
     ] {
         assert_eq!(rt; is_json(alloc, text.as_bytes())?, is, "{text}");
+        assert!(rt; readers_agree(alloc, text.as_bytes())?, "{text}");
     }
-    assert!(rt; !is_json(alloc, b"\"\xff\"")?);
+    assert!(rt; !is_json(alloc, b"\"\xff\"")? && !is_borrowed_json(alloc, b"\"\xff\"")?);
     for (levels, is) in [(127, true), (128, false)] {
         let mut text = vec![in alloc; b'['; levels]?;
         for _ in 0..levels {
             text.push(b']')?;
         }
         assert_eq!(rt; is_json(alloc, text.as_slice())?, is, "{levels}");
+        assert!(rt; readers_agree(alloc, text.as_slice())?, "{levels}");
     }
     Ok(())
 }

@@ -1,6 +1,10 @@
-//! What no clause says of the crates below the top call: each public call once where there is memory, against values from
-//! outside, and each limit and one more.
+//! What no clause says of the crates below the top call: their calls where there is memory, against values from outside; and
+//! that the two readers of JSON texts agree, which is proved.
 #![tactic(auto)]
+
+mod readers;
+
+pub use readers::{is_borrowed_json, is_json, readers_agree};
 
 #[cfg(test)]
 mod base;

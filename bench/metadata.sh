@@ -2,13 +2,14 @@
 # What reading metadata costs: a HostIndex of about 1 and about 8 MiB in each of four shapes, through `cdnid replay`. It prints
 # the instructions for each byte of the text, counted under callgrind as the slope between the two sizes, the seconds and
 # the peak of memory beyond that of a small document, as a multiple of the text, and how much of it the text and the JSON value
-# alone take. With the word `shortest` the shapes are two that hold nothing but the shortest items: windows of 22 bytes and
-# countries of 5, for which no bound is claimed, since an item takes the same memory however short its text is.
+# alone take. With the word `shortest` the shapes are three that hold nothing but the shortest items: windows of 22 bytes,
+# countries of 5, and lists of one list each, 120 deep, at a property that is not read. No bound is claimed for them, since an item
+# takes the same memory however short its text is.
 # Usage: bench/metadata.sh [shortest]   (needs valgrind and python3; builds the program by `rt run` where it is not built)
 set -eu
 source "$(dirname "$0")/replaying.sh"
 shapes="paths blocks names windows"
-[[ ${1-} == shortest ]] && shapes="short_windows countries"
+[[ ${1-} == shortest ]] && shapes="short_windows countries deep_lists"
 
 python3 - "$room" $shapes <<'PYTHON'
 import json, sys
@@ -33,6 +34,11 @@ def short_windows(size):  # the shortest objects that read
     return tree({"metadata": [generic("MI.TimeWindowACL", {"times": [{"windows": [{"start": 0, "end": 1} for n in range(size // 22)]}]})]})
 def countries(size):  # the shortest footprints
     return tree({"metadata": [generic("MI.LocationACL", {"locations": [{"footprints": [{"footprint-type": "countrycode", "footprint-value": ["aa"] * (size // 5)}]}]})]})
+def deep_lists(size):  # lists of one list each
+    deep = 1
+    for _ in range(120):
+        deep = [deep]
+    return {**tree({}), "note": [deep] * (size // 242)}
 for shape in (globals()[name] for name in shapes):
     for label, size in (("none", 0), ("few", 1 << 20), ("many", 8300000)):
         text = json.dumps(shape(size), separators=(",", ":"))

@@ -273,13 +273,13 @@ endpoint_is_read text endpoint is =
     let host = is.0 in
     let rest = is.1 in
     let long = host_is_read host rest is.3 (host_rest rest endpoint.port is.5) in
-    ap endpoint_of is.2 ∙ endpoint_parts (host ++ rest) (length host) long (some_host host is.3) ∙ ap (λ (h : List ℕ). endpoint_at h (port_of (drop (length host) (host ++ rest)))) (take_at host rest (length host) refl) ∙ ap (λ (r : List ℕ). endpoint_at host (port_of r)) (drop_at host rest (length host) refl) ∙ ap (endpoint_at host) (port_is_read rest endpoint.port is.5) ∙ ap (λ (h : List ℕ). Ok (record { host = record { 0 = h }; port = endpoint.port })) (sym is.4)
+    ap endpoint_of is.2 ∙ endpoint_parts (host ++ rest) (length host) long (some_host host is.3) ∙ ap (λ (h : List ℕ). endpoint_at h (port_of (drop (length host) (host ++ rest)))) (take_at host rest (length host) refl) ∙ ap (λ (r : List ℕ). endpoint_at host (port_of r)) (drop_at host rest (length host) refl) ∙ ap (endpoint_at host) (port_is_read rest endpoint.port is.5) ∙ ap (λ (h : List ℕ). Ok (record { host = h; port = endpoint.port })) (sym is.4)
 
-at_read : (host rest : List ℕ) (read : Result (Option ℕ) ℕ) (endpoint : Endpoint) → port_of rest ≡ read → endpoint_at host read ≡ Ok endpoint → (endpoint.host.0 ≡ str_to_ascii_lowercase host) × IsPortPart rest endpoint.port
+at_read : (host rest : List ℕ) (read : Result (Option ℕ) ℕ) (endpoint : Endpoint) → port_of rest ≡ read → endpoint_at host read ≡ Ok endpoint → (endpoint.host ≡ str_to_ascii_lowercase host) × IsPortPart rest endpoint.port
 at_read host rest (Err at) endpoint e h = absurd (err_ok endpoint (BadPort (length host + at)) h)
 at_read host rest (Ok port) endpoint e h =
-    let same = ok_same (record { host = record { 0 = str_to_ascii_lowercase host }; port = port }) endpoint h in
-    (ap (λ (x : Endpoint). x.host.0) (sym same), port_of_read rest endpoint.port (e ∙ ap (λ (x : Endpoint). Ok x.port) same))
+    let same = ok_same (record { host = str_to_ascii_lowercase host; port = port }) endpoint h in
+    (ap (λ (x : Endpoint). x.host) (sym same), port_of_read rest endpoint.port (e ∙ ap (λ (x : Endpoint). Ok x.port) same))
 
 pub endpoint_of_read : (text : List ℕ) (endpoint : Endpoint) → endpoint_of text ≡ Ok endpoint → IsEndpoint text endpoint
 endpoint_of_read text endpoint e = elim (cases_lt 0 (host_length text)) [

@@ -53,13 +53,13 @@ first_of_host byte bytes host rest e (inr bracketed) = inr (heads byte 91 bytes 
 
 -- short endpoints
 one_letter : IsSomeEndpoint (97 ∷ [])
-one_letter = (record { host = record { 0 = 97 ∷ [] }; port = None }, (97 ∷ [], [], refl, inl (omega arith, omega arith, refl), refl, inl refl))
+one_letter = (record { host = 97 ∷ []; port = None }, (97 ∷ [], [], refl, inl (omega arith, omega arith, refl), refl, inl refl))
 
 lone_host : (host : List ℕ) → IsHost host → IsSomeEndpoint host
-lone_host host is = (record { host = record { 0 = str_to_ascii_lowercase host }; port = None }, (host, [], sym (append-nil host), is, refl, inl refl))
+lone_host host is = (record { host = str_to_ascii_lowercase host; port = None }, (host, [], sym (append-nil host), is, refl, inl refl))
 
 with_port : (host rest : List ℕ) (port : Option ℕ) → IsHost host → IsPortPart rest port → IsSomeEndpoint (host ++ rest)
-with_port host rest port is part = (record { host = record { 0 = str_to_ascii_lowercase host }; port = port }, (host, rest, refl, is, refl, part))
+with_port host rest port is part = (record { host = str_to_ascii_lowercase host; port = port }, (host, rest, refl, is, refl, part))
 
 address_host : (address : List ℕ) → 0 < length address → length address ≤ 253 → list_all is_address_byte address ≡ true → IsHost (91 ∷ (address ++ 93 ∷ []))
 address_host address some fits all = let long = length-append address (93 ∷ []) in inr (address, refl, some, omega arith, all)
@@ -426,7 +426,7 @@ port_same a b h = cc
 
 -- the fault of what is read at a host
 fault_at : (host : List ℕ) (read : Result (Option ℕ) ℕ) (fault : EndpointFault) → endpoint_at host read ≡ Err fault → (front : ℕ) × (read ≡ Err front) × (fault ≡ BadPort (length host + front))
-fault_at host (Ok port) fault e = absurd (ok_err (record { host = record { 0 = str_to_ascii_lowercase host }; port = port }) fault e)
+fault_at host (Ok port) fault e = absurd (ok_err (record { host = str_to_ascii_lowercase host; port = port }) fault e)
 fault_at host (Err front) fault e = (front, refl, sym (err_same (BadPort (length host + front)) fault e))
 
 -- each fault of an endpoint, and its place

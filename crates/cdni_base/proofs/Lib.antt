@@ -1,3 +1,4 @@
+pub mod TableLemmas
 pub mod EndpointLemmas
 pub mod FrontLemmas
 pub mod KeyLemmas

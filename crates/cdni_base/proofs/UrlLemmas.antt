@@ -81,8 +81,8 @@ own : IsNumeralModel (λ ds. all_ascii_digits ds ≡ true) (digits_value 10)
 own = numerals_by_value (λ ds. all_ascii_digits ds ≡ true) tells_all_ascii_digits
 
 record IsWritable (target : Target) : Type 0 where
-  host : IsHost target.host.0
-  lower : target.host.0 ≡ str_to_ascii_lowercase target.host.0
+  host : IsHost target.host
+  lower : target.host ≡ str_to_ascii_lowercase target.host
   least : 1 ≤ target.port
   most : target.port ≤ 65535
   path : IsPath target.path
@@ -94,7 +94,7 @@ port_bounds text (Some port) secure is = ⊎_elim (λ here. rw (cond-true (secur
 
 at_writable : (text : List ℕ) (endpoint : Endpoint) (secure : Bool) (target : Target) → IsEndpoint text endpoint → IsAt endpoint secure target → IsPath target.path → IsQuery target.query → IsWritable target
 at_writable text endpoint secure target is at path query =
-    let name : target.host.0 ≡ str_to_ascii_lowercase is.0 = ap (λ h. h.0) at.0 ∙ is.4 in
+    let name : target.host ≡ str_to_ascii_lowercase is.0 = at.0 ∙ is.4 in
     let bounds = port_bounds is.1 endpoint.port secure is.5 in
     record {
       host = subst IsHost (sym name) (lower_host is.0 is.3);
@@ -151,10 +151,10 @@ protocol_is false = refl
 pub written_is_read : (text : List ℕ) (host other : Option (List ℕ)) (secure with_secure https : Bool) (target : Target) → IsTarget text host secure target → (https ≡ true → target.port ≢ 443) → length (url_text https target) ≤ 4096 → IsTarget (url_text https target) other with_secure target
 written_is_read text host other secure with_secure https target is port fits =
     let parts = writable text host secure target is in
-    let authority = target.host.0 ++ port_text target.port in
+    let authority = target.host ++ port_text target.port in
     let rest = target.path ++ query_text target.query in
     let endpoint : Endpoint = record { host = target.host; port = port_option target.port } in
-    let whole : IsEndpoint authority endpoint = (target.host.0, port_text target.port, refl, parts.host, parts.lower, written_port target.port parts.least parts.most) in
+    let whole : IsEndpoint authority endpoint = (target.host, port_text target.port, refl, parts.host, parts.lower, written_port target.port parts.least parts.most) in
     let at : IsAt endpoint (is_https (protocol_of https)) target = (refl, sym (read_port target.port https port) ∙ ap (λ (b : Bool). port_or_default b (port_option target.port)) (sym (protocol_is https))) in
-    let text_is = ap (λ (xs : List ℕ). xs ++ target.path ++ query_text target.query) (append_assoc (scheme_text https) target.host.0 (port_text target.port)) ∙ append_assoc (scheme_text https ++ authority) target.path (query_text target.query) ∙ append_assoc (scheme_text https) authority rest in
+    let text_is = ap (λ (xs : List ℕ). xs ++ target.path ++ query_text target.query) (append_assoc (scheme_text https) target.host (port_text target.port)) ∙ append_assoc (scheme_text https ++ authority) target.path (query_text target.query) ∙ append_assoc (scheme_text https) authority rest in
     (fits, inl (scheme_text https, authority, rest, protocol_of https, endpoint, text_is, written_scheme https, whole, at, inl (refl, parts.path, parts.query)))

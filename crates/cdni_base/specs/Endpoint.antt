@@ -1,5 +1,5 @@
 -- Hosts and endpoints.
-use Rattle.std.specs.Prelude.{◌≡◌, ℕ, ◌+◌, ◌-◌, ◌*◌, Bool, List, [], ◌∷◌, length, take, drop, slice_index, min, None, Some, Ok, Err, ◌==◌, ◌&&◌, ◌||◌, nat_lt, nat_le, if◌then◌else◌}
+use Rattle.std.specs.Prelude.{◌≡◌, ℕ, ◌+◌, ◌-◌, ◌*◌, Bool, List, [], ◌∷◌, length, take, drop, slice_index, min, None, Some, Ok, Err, IsOk, ◌==◌, ◌&&◌, ◌||◌, nat_lt, nat_le, if◌then◌else◌}
 use Rattle.std.specs.List.{prefix_len}
 use Rattle.std.specs.Option.{option_map_or, option_and_then}
 use Rattle.std.specs.Char.{is_ascii_digit, is_ascii_hexdigit, is_ascii_alphanumeric}
@@ -10,6 +10,9 @@ use Rattle.listing.specs.Number.{number_of_digits}
 use Rattle.cdni_base.specs.declared.endpoint.Endpoint.{Endpoint}
 use Rattle.cdni_base.specs.declared.endpoint.EndpointFault.{EndpointFault}
 use Rattle.cdni_base.specs.declared.endpoint.EndpointFault.TheVariants.{BadHost, BadPort, Memory}
+use Rattle.cdni_base.specs.declared.endpoint.EndpointParts.{EndpointParts}
+use Rattle.cdni_base.specs.declared.endpoint.WrongPart.{WrongPart}
+use Rattle.cdni_base.specs.declared.endpoint.WrongPart.TheVariants as wrong_part
 
 -- a letter, a digit, `.`, `-` or `_`
 abbrev pub is_name_byte : ℕ → Bool
@@ -58,15 +61,29 @@ port_of text = if length text == 0 then Ok None else (if slice_index text 0 == 5
 
 -- an endpoint of this host
 abbrev pub endpoint_at : List ℕ → Result (Option ℕ) ℕ → Result Endpoint EndpointFault
-endpoint_at host (Ok port) = Ok (record { host = record { 0 = str_to_ascii_lowercase host }; port = port })
+endpoint_at host (Ok port) = Ok (record { host = str_to_ascii_lowercase host; port = port })
 endpoint_at host (Err at) = Err (BadPort (length host + at))
 
 -- the endpoint that the text writes, or why it writes none
 unfoldable pub endpoint_of : List ℕ → Result Endpoint EndpointFault
 endpoint_of text = if host_length text == 0 then Err (BadHost (host_front text)) else endpoint_at (take (host_length text) text) (port_of (drop (host_length text) text))
 
--- a reader of endpoints answers the reading of the text, or finds no memory
+-- a reader of endpoints answers the reading of the text; only where the text is an endpoint may it find no memory
 abbrev pub ReadsEndpoint : List ℕ → Result Endpoint EndpointFault → Type 0
 ReadsEndpoint text (Ok endpoint) = endpoint_of text ≡ Ok endpoint
-ReadsEndpoint text (Err Memory) = Unit {0}
+ReadsEndpoint text (Err Memory) = IsOk (endpoint_of text)
 ReadsEndpoint text (Err fault) = endpoint_of text ≡ Err fault
+
+-- the endpoint of these parts of the text
+abbrev pub endpoint_with : List ℕ → EndpointParts → Endpoint
+endpoint_with text parts = record { host = str_to_ascii_lowercase (take parts.host_length text); port = parts.port }
+
+-- the fault of an endpoint whose part is wrong
+abbrev pub fault_of_part : WrongPart → EndpointFault
+fault_of_part (wrong_part.Host at) = BadHost at
+fault_of_part (wrong_part.Port at) = BadPort at
+
+-- these are the parts of the text, or this part of it is wrong
+abbrev pub HasParts : List ℕ → Result EndpointParts WrongPart → Type 0
+HasParts text (Ok parts) = endpoint_of text ≡ Ok (endpoint_with text parts)
+HasParts text (Err part) = endpoint_of text ≡ Err (fault_of_part part)

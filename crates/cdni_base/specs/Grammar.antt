@@ -43,7 +43,7 @@ IsPortPart text (Some port) = (digits : List ℕ) × (text ≡ 58 ∷ digits) ×
 -- a host, which reads in lower case, and a port, where one is given (RFC 3986, section 3.2)
 abbrev pub IsEndpoint : List ℕ → Endpoint → Type 0
 IsEndpoint text endpoint =
-    (host : List ℕ) × (rest : List ℕ) × (text ≡ host ++ rest) × IsHost host × (endpoint.host.0 ≡ str_to_ascii_lowercase host) × IsPortPart rest endpoint.port
+    (host : List ℕ) × (rest : List ℕ) × (text ≡ host ++ rest) × IsHost host × (endpoint.host ≡ str_to_ascii_lowercase host) × IsPortPart rest endpoint.port
 
 -- one of these bytes, or pct-encoded: `%` and two hexadecimal digits (RFC 3986, section 2.1)
 abbrev pub IsCharacter : (ℕ → Bool) → List ℕ → Type 0

@@ -3,7 +3,6 @@ use Rattle.std.specs.Prelude.{◌≡◌, ℕ, Bool, true, false, not, List, [], 
 use Rattle.std.specs.List.{slice_split, before_first, join_with_byte, list_any, list_all}
 use Rattle.std.specs.Str.{str_to_ascii_lowercase}
 use Rattle.std.specs.declared.option.Option.{Option}
-use Rattle.cdni_base.specs.declared.endpoint.HostName.{HostName}
 use Rattle.cdni_base.specs.declared.key.Ignored.{Ignored}
 use Rattle.cdni_base.specs.declared.key.Ignored.TheVariants as ignored
 use Rattle.cdni_base.specs.declared.target.Target.{Target}
@@ -11,7 +10,7 @@ use Rattle.cdni_base.specs.Target.{url_of}
 
 -- a key, without its URL texts, which the others give
 pub record KeyParts : Type 0 where
-  pub host : HostName
+  pub host : List ℕ
   pub port : ℕ
   pub path : List ℕ
   pub query : Option (List ℕ)

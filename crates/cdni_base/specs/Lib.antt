@@ -7,3 +7,4 @@ pub mod Provider
 pub mod Rule
 pub mod Scratch
 pub mod Target
+pub mod TypeName

@@ -1,5 +1,5 @@
 -- Provider ids (RFC 8007, section 4.6): `AS`, a number, `:` and a qualifier.
-use Rattle.std.specs.Prelude.{◌≡◌, ℕ, ◌+◌, ◌≤◌, IsTrue, List, ◌∷◌, ◌++◌, length, drop, slice_index, min, None, Some, Ok, Err, ◌==◌, ◌&&◌, nat_lt, nat_le, if◌then◌else◌}
+use Rattle.std.specs.Prelude.{◌≡◌, ℕ, ◌+◌, ◌≤◌, IsTrue, List, ◌∷◌, ◌++◌, length, drop, slice_index, min, None, Some, Ok, Err, IsOk, ◌==◌, ◌&&◌, nat_lt, nat_le, if◌then◌else◌}
 use Rattle.std.specs.List.{prefix_len, list_all}
 use Rattle.std.specs.Option.{option_map_or}
 use Rattle.std.specs.Char.{is_ascii_digit}
@@ -43,10 +43,10 @@ wrong_place text = if as_length text == 2 then wrong_number text (prefix_len is_
 abbrev pub provider_of : List ℕ → Result ProviderId ProviderFault
 provider_of text = option_map_or (λ at. Err (Bad at)) (wrong_place text) (Ok (record { 0 = text }))
 
--- a reader of provider ids answers the reading of the text, or finds no memory
+-- a reader of provider ids answers the reading of the text; only where the text is one may it find no memory
 abbrev pub ReadsProvider : List ℕ → Result ProviderId ProviderFault → Type 0
 ReadsProvider text (Ok id) = provider_of text ≡ Ok id
-ReadsProvider text (Err Memory) = Unit {0}
+ReadsProvider text (Err Memory) = IsOk (provider_of text)
 ReadsProvider text (Err fault) = provider_of text ≡ Err fault
 
 -- it answers the value of the text; or a fault, where the text has none; or finds no memory

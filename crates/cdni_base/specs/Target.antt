@@ -1,5 +1,5 @@
 -- Targets: what a URL names (RFC 3986, section 3; RFC 9112, section 3.2), read by computing the value or the first fault.
-use Rattle.std.specs.Prelude.{◌≡◌, ℕ, ◌+◌, ◌-◌, Bool, true, false, List, [], ◌∷◌, ◌++◌, length, take, drop, slice_index, None, Some, Ok, Err, codes, decimal, bytes_eq, ◌==◌, ◌&&◌, ◌||◌, nat_lt, if◌then◌else◌}
+use Rattle.std.specs.Prelude.{◌≡◌, ℕ, ◌+◌, ◌-◌, Bool, true, false, List, [], ◌∷◌, ◌++◌, length, take, drop, slice_index, None, Some, Ok, Err, IsOk, codes, decimal, bytes_eq, ◌==◌, ◌&&◌, ◌||◌, nat_lt, if◌then◌else◌}
 use Rattle.std.specs.List.{prefix_len}
 use Rattle.std.specs.Option.{option_map_or}
 use Rattle.std.specs.Char.{is_ascii_hexdigit, is_ascii_alphanumeric}
@@ -10,7 +10,6 @@ use Rattle.listing.specs.Word.{parts_at}
 use Rattle.cdni_base.specs.declared.endpoint.Endpoint.{Endpoint}
 use Rattle.cdni_base.specs.declared.endpoint.EndpointFault.{EndpointFault}
 use Rattle.cdni_base.specs.declared.endpoint.EndpointFault.TheVariants as endpoint_fault
-use Rattle.cdni_base.specs.declared.endpoint.HostName.{HostName}
 use Rattle.cdni_base.specs.declared.target.Protocol.{Protocol}
 use Rattle.cdni_base.specs.declared.target.Protocol.TheVariants.{Http, Https}
 use Rattle.cdni_base.specs.declared.target.Target.{Target}
@@ -52,15 +51,23 @@ is_https Https = true
 abbrev pub is_before_path : ℕ → Bool
 is_before_path byte = if byte == 47 || byte == 63 then false else true
 
+-- two hexadecimal digits stand at the front
+abbrev pub begins_with_digits : List ℕ → Bool
+begins_with_digits bytes = is_ascii_hexdigit (slice_index bytes 0) && is_ascii_hexdigit (slice_index bytes 1)
+
 -- a byte of a path or a query, before the bytes that follow it: `/`, `?` or of a pchar; after `%` two hexadecimal digits
 abbrev pub is_taken : ℕ → List ℕ → Bool
-is_taken byte bytes = if byte == 37
-    then is_ascii_hexdigit (slice_index bytes 0) && is_ascii_hexdigit (slice_index bytes 1)
-    else is_plain byte || byte == 47 || byte == 63
+is_taken byte bytes = if byte == 37 then begins_with_digits bytes else is_plain byte || byte == 47 || byte == 63
 
 -- why this byte is wrong at this place
 abbrev pub wrong_byte : ℕ → ℕ → TargetFault
 wrong_byte byte at = if byte == 37 then BadPercent at else NotOrigin at
+
+-- the fault of a wrong byte
+abbrev pub IsWrongByte : TargetFault → Type 0
+IsWrongByte (BadPercent at) = Unit {0}
+IsWrongByte (NotOrigin at) = Unit {0}
+IsWrongByte fault = ⊥
 
 -- the first wrong byte of a path and a query whose first byte stands at this place
 unfoldable pub first_wrong : ℕ → List ℕ → Option TargetFault
@@ -121,13 +128,13 @@ target_by None text (Some host) secure = target_after (endpoint_of host) secure 
 unfoldable pub target_of : List ℕ → Option (List ℕ) → Bool → Result Target TargetFault
 target_of text host secure = if nat_lt 4096 (length text) then Err (TooLong (length text)) else target_by (scheme_of text) text host secure
 
--- a reader of targets answers this reading, or finds no memory
+-- a reader of targets answers this reading; only where that is a target may it find no memory
 abbrev pub Reads : Result Target TargetFault → Result Target TargetFault → Type 0
 Reads reading (Ok target) = reading ≡ Ok target
-Reads reading (Err Memory) = Unit {0}
+Reads reading (Err Memory) = IsOk reading
 Reads reading (Err fault) = reading ≡ Err fault
 
--- a reader of targets answers the reading of the text, or finds no memory
+-- a reader of targets answers the reading of the text; only where the text is a target may it find no memory
 abbrev pub ReadsTarget : List ℕ → Option (List ℕ) → Bool → Result Target TargetFault → Type 0
 ReadsTarget text host secure result = Reads (target_of text host secure) result
 
@@ -146,8 +153,8 @@ query_text None = []
 query_text (Some query) = 63 ∷ query
 
 -- the URL that is made of these parts (RFC 3986, section 5.3)
-abbrev pub url_of : Bool → HostName → ℕ → List ℕ → Option (List ℕ) → List ℕ
-url_of secure host port path query = scheme_text secure ++ host.0 ++ port_text port ++ path ++ query_text query
+abbrev pub url_of : Bool → List ℕ → ℕ → List ℕ → Option (List ℕ) → List ℕ
+url_of secure host port path query = scheme_text secure ++ host ++ port_text port ++ path ++ query_text query
 
 -- the URL of a target
 abbrev pub url_text : Bool → Target → List ℕ

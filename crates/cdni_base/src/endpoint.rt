@@ -2,17 +2,15 @@
 
 ghost use Rattle.std.specs.Prelude.{◌≡◌, ◌==◌, ◌<◌, ◌≤◌, length, slice_index, IfOk, IfErr, IsTrue};
 ghost use Rattle.std.specs.List.{prefix_len};
-ghost use Rattle.std.specs.Str.{str_to_ascii_lowercase};
-ghost use Rattle.cdni_base.specs.Endpoint.{is_name_byte, is_address_byte, host_length, host_front, port_of, port_number, port_front, ReadsEndpoint};
+ghost use Rattle.cdni_base.specs.Endpoint.{is_name_byte, is_address_byte, host_length, host_front, port_of, port_number, port_front, HasParts, ReadsEndpoint};
+ghost use Rattle.cdni_base.specs.declared.host_name.TheConstants.{HOST_NAME_MAX};
 ghost use Rattle.cdni_base.specs.Fronts.{StandsAtFront};
 ghost use Rattle.cdni_base.specs.Grammar.{AnswersEndpoint};
 
-use listing::{Listing, Text, read_digits};
+use crate::byte_class::is_name_byte;
+use crate::host_name::{HOST_NAME_MAX, HostName};
+use listing::{Listing, read_digits};
 use std::alloc::{AllocError, Global};
-
-/// A host, in lower case: a name or address of 1 to 255 bytes, or an address in brackets.
-#[derive(Clone, Drop)]
-pub struct HostName(pub Text);
 
 /// A host and a port, where one is given.
 #[derive(Clone, Drop)]
@@ -61,36 +59,64 @@ impl Endpoint {
     }
 }
 
-// the endpoint that the text writes, or why it writes none
-#[tactic(auto, unfolding(crate::specs::Endpoint::endpoint_of))]
+// the endpoint that the text writes, or why it writes none; of its faults want of memory comes last
 fn read_endpoint(alloc: Global, text: &[u8]) -> Result<Endpoint, EndpointFault>
     ensures { ReadsEndpoint text.now result }
 {
-    let length = host_length(text);
-    if length == 0 {
-        return Err(EndpointFault::BadHost {
-            at: host_front(text),
-        });
-    }
-    match read_port(&text[length..]) {
-        Ok(port) => Ok(Endpoint {
-            host: HostName(lowered(alloc, &text[..length])?),
-            port,
-        }),
-        Err(at) => Err(EndpointFault::BadPort { at: length + at }),
+    let parts = endpoint_parts(text)?;
+    Ok(Endpoint {
+        host: HostName::lowered(alloc, &text[..parts.host_length])?,
+        port: parts.port,
+    })
+}
+
+/// The parts of a text that is an endpoint: how many bytes its host has, and the port behind it.
+#[derive(Clone, Copy)]
+pub(crate) struct EndpointParts {
+    pub host_length: usize,
+    pub port: Option<u16>,
+}
+
+/// Which part of a text keeps it from being an endpoint, and the length of the longest prefix with which some endpoint begins.
+#[derive(Clone, Copy)]
+pub(crate) enum WrongPart {
+    Host { at: usize },
+    Port { at: usize },
+}
+
+impl From<WrongPart> for EndpointFault {
+    ghost use Rattle.std.specs.Prelude.{◌≡◌};
+    ghost use Rattle.cdni_base.specs.Endpoint.{fault_of_part};
+
+    ghost from_gives = { λ part fault. fault ≡ fault_of_part part };
+
+    fn from(part: WrongPart) -> EndpointFault {
+        match part {
+            WrongPart::Host { at } => EndpointFault::BadHost { at },
+            WrongPart::Port { at } => EndpointFault::BadPort { at },
+        }
     }
 }
 
-// the bytes in lower case
-fn lowered(alloc: Global, bytes: &[u8]) -> Result<Text, AllocError>
-    ensures { IfOk result (λ text. text ≡ str_to_ascii_lowercase bytes.now) }
+// the parts of the endpoint that the text writes, or which part is wrong; it takes no memory
+#[tactic(auto, unfolding(crate::specs::Endpoint::endpoint_of))]
+pub(crate) fn endpoint_parts(text: &[u8]) -> Result<EndpointParts, WrongPart>
+    ensures whole { HasParts text.now result }
+    ensures within { IfOk result (λ parts. parts.host_length ≤ length text.now) }
+    ensures short { IfOk result (λ parts. parts.host_length ≤ HOST_NAME_MAX) }
 {
-    Ok(Text::from_vec(
-        bytes
-            .iter()
-            .map(|byte| byte.to_ascii_lowercase())
-            .collect(alloc)?,
-    ))
+    let host_length = host_length(text);
+    if host_length == 0 {
+        return Err(WrongPart::Host {
+            at: host_front(text),
+        });
+    }
+    match read_port(&text[host_length..]) {
+        Ok(port) => Ok(EndpointParts { host_length, port }),
+        Err(at) => Err(WrongPart::Port {
+            at: host_length + at,
+        }),
+    }
 }
 
 // the length of the longest host with which the text begins, 0 where there is none
@@ -98,12 +124,17 @@ fn lowered(alloc: Global, bytes: &[u8]) -> Result<Text, AllocError>
 fn host_length(text: &[u8]) -> usize
     ensures length { result ≡ host_length text.now }
     ensures within { result ≤ length text.now }
+    ensures short { result ≤ HOST_NAME_MAX }
 {
     if !begins_with_bracket(text) {
-        return name_length(text).min(255);
+        return name_length(text).min(HOST_NAME_MAX);
     }
     let address = address_length(&text[1..]);
-    if address > 0 && address <= 253 && address + 1 < text.len() && text[address + 1] == b']' {
+    if address > 0
+        && address <= HOST_NAME_MAX - 2
+        && address + 1 < text.len()
+        && text[address + 1] == b']'
+    {
         return address + 2;
     }
     0
@@ -115,7 +146,7 @@ fn host_front(text: &[u8]) -> usize
     ensures { result ≡ host_front text.now }
 {
     if begins_with_bracket(text) {
-        (address_length(&text[1..]) + 1).min(254)
+        (address_length(&text[1..]) + 1).min(HOST_NAME_MAX - 1)
     } else {
         0
     }
@@ -134,12 +165,6 @@ pub(crate) fn name_length(text: &[u8]) -> usize
     ensures within { result ≤ length text.now }
 {
     text.iter().take_while(|byte| is_name_byte(**byte)).count()
-}
-
-fn is_name_byte(byte: u8) -> bool
-    ensures { result ≡ is_name_byte byte }
-{
-    byte.is_ascii_alphanumeric() || byte == b'.' || byte == b'-' || byte == b'_'
 }
 
 // how many bytes of an address stand at the front

@@ -7,7 +7,7 @@ ghost use Rattle.std.specs.Option.{option_map};
 ghost use Rattle.cdni_base.specs.Target.{query_text};
 ghost use Rattle.cdni_base.specs.Key.{pieces_of, is_kept, joined, kept_query, key_of, key_text};
 
-use crate::endpoint::HostName;
+use crate::host_name::HostName;
 use crate::target::Target;
 use crate::url::url_of;
 use listing::{Text, TextList, cut_at};
@@ -108,7 +108,7 @@ impl Key {
         ensures { IsTrue result ↔ (key_of target.now self.now.ignored ≡ self.now) }
     {
         self.port == target.port
-            && self.host.0.is(target.host.0.bytes())
+            && self.host.0.is(target.host.bytes())
             && self.path.is(target.path.bytes())
             && is_kept_query(&self.ignored, &target.query, &self.query)
     }

@@ -3,7 +3,10 @@
 #![tactic(auto)]
 
 mod body;
+mod byte_class;
+mod date;
 mod endpoint;
+mod host_name;
 mod key;
 pub mod laws;
 mod limits;
@@ -11,14 +14,21 @@ mod provider;
 mod rule;
 mod scratch;
 mod target;
+mod type_name;
 mod url;
 
 pub use body::Body;
-pub use endpoint::{Endpoint, EndpointFault, EndpointList, HostName};
+pub use date::{DATE_END, put_date};
+pub use endpoint::{Endpoint, EndpointFault, EndpointList};
+pub use host_name::{HOST_NAME_MAX, HostName};
 pub use key::{Ignored, Key, url_key};
 pub use limits::Limits;
 pub use listing::{Listing, Text, TextList};
 pub use provider::{ProviderFault, ProviderId};
-pub use rule::Rule;
+pub use rule::{RULE_TEXT_MAX, Rule};
 pub use scratch::Scratch;
-pub use target::{Asked, Protocol, SourceItem, SourceItemList, Target, TargetFault};
+pub use target::{
+    Asked, HTTP_PORT, HTTPS_PORT, Protocol, SourceItem, SourceItemList, TARGET_MAX, Target,
+    TargetFault,
+};
+pub use type_name::{TYPE_NAME_MAX, TypeName};

@@ -38,7 +38,7 @@ impl ProviderId {
     /// Reads a provider id.
     ///
     /// # Errors
-    /// `Bad` where the text is none, or want of memory.
+    /// `Bad` exactly where the text is none, or want of memory.
     pub fn read(alloc: Global, text: &[u8]) -> Result<ProviderId, ProviderFault>
         ensures value { ReadsProvider text.now result }
         ensures grammar { AnswersProvider text.now result }

@@ -2,12 +2,15 @@
 
 ghost use Rattle.std.specs.Prelude.{◌≡◌, ◌≤◌, length, drop, IfOk, IfSome, IsTrue, option_map};
 ghost use Rattle.std.specs.List.{prefix_len};
-ghost use Rattle.cdni_base.specs.Target.{begins_with, scheme_of, scheme_length, is_before_path, is_unreserved, is_sub_delimiter, is_plain, is_taken, wrong_byte, first_wrong, first_wrong_of_path, path_or_root, port_or_default, target_at, target_after, absolute_target, url_text, Reads, ReadsTarget};
-ghost use Rattle.cdni_base.specs.Endpoint.{endpoint_of};
+ghost use Rattle.cdni_base.specs.Target.{begins_with, scheme_of, scheme_length, is_before_path, begins_with_digits, is_taken, wrong_byte, IsWrongByte, first_wrong, first_wrong_of_path, path_or_root, port_or_default, target_at, target_after, absolute_target, url_text, Reads, ReadsTarget};
+ghost use Rattle.cdni_base.specs.Endpoint.{endpoint_of, endpoint_with};
+ghost use Rattle.cdni_base.specs.declared.host_name.TheConstants.{HOST_NAME_MAX};
 ghost use Rattle.cdni_base.specs.Fronts.{StandsInEndpoint};
 ghost use Rattle.cdni_base.specs.Grammar.{AnswersTarget};
 
-use crate::endpoint::{Endpoint, EndpointFault, EndpointList, HostName};
+use crate::byte_class::is_query_byte;
+use crate::endpoint::{EndpointList, EndpointParts, WrongPart, endpoint_parts};
+use crate::host_name::{HOST_NAME_MAX, HostName};
 use crate::url::url_of;
 use listing::{Listing, Text, cut_at};
 use std::alloc::{AllocError, Global};
@@ -58,18 +61,16 @@ impl From<AllocError> for TargetFault {
     }
 }
 
-impl From<EndpointFault> for TargetFault {
+impl From<WrongPart> for TargetFault {
     ghost use Rattle.std.specs.Prelude.{◌≡◌};
+    ghost use Rattle.cdni_base.specs.Endpoint.{fault_of_part};
     ghost use Rattle.cdni_base.specs.Target.{bad_host};
 
-    ghost from_gives = { λ endpoint fault. fault ≡ bad_host endpoint };
+    ghost from_gives = { λ part fault. fault ≡ bad_host (fault_of_part part) };
 
-    fn from(fault: EndpointFault) -> TargetFault {
-        match fault {
-            EndpointFault::BadHost { at } | EndpointFault::BadPort { at } => {
-                TargetFault::BadHost { at }
-            }
-            EndpointFault::Memory => TargetFault::Memory,
+    fn from(part: WrongPart) -> TargetFault {
+        match part {
+            WrongPart::Host { at } | WrongPart::Port { at } => TargetFault::BadHost { at },
         }
     }
 }
@@ -92,8 +93,14 @@ pub struct SourceItem {
 /// A list of sources.
 pub type SourceItemList = Listing<SourceItem>;
 
-/// The longest text of a target, in bytes.
-const MAX_LENGTH: usize = 4096;
+/// The most bytes of the text of a target.
+pub const TARGET_MAX: usize = 4096;
+
+/// The port that stands for an absent one.
+pub const HTTP_PORT: u16 = 80;
+
+/// The port that reads as absent beside `https`.
+pub const HTTPS_PORT: u16 = 443;
 
 impl Target {
     /// Reads a path with an optional query, which is asked of `host` (RFC 9112, section 3.2.1), or an absolute URL
@@ -102,7 +109,7 @@ impl Target {
     /// as `/`; a path and a query are else kept as they were sent, and the host in lower case.
     ///
     /// # Errors
-    /// The first fault in the order of `TargetFault`, or want of memory.
+    /// The first fault in the order of `TargetFault`. Want of memory comes only where the text is a target.
     pub fn read(
         alloc: Global,
         text: &[u8],
@@ -144,7 +151,7 @@ fn read_target(
 ) -> Result<Target, TargetFault>
     ensures { ReadsTarget text.now (option_map (λ h. h.now) host.entry) secure result }
 {
-    if text.len() > MAX_LENGTH {
+    if text.len() > TARGET_MAX {
         return Err(TargetFault::TooLong { len: text.len() });
     }
     match scheme_of(text) {
@@ -196,22 +203,24 @@ fn read_absolute(alloc: Global, scheme: Protocol, text: &[u8]) -> Result<Target,
 {
     let start = scheme_length(scheme);
     let end = start + length_before_path(&text[start..]);
-    let endpoint = Endpoint::read(alloc, &text[start..end])?;
-    match first_wrong(text, end) {
-        Some(fault) => Err(fault),
-        None => Ok(target_at(alloc, endpoint, scheme == Protocol::Https, &text[end..])?),
+    let authority = &text[start..end];
+    let parts = endpoint_parts(authority)?;
+    if let Some(fault) = first_wrong(text, end) {
+        return Err(fault);
     }
+    let secure = scheme == Protocol::Https;
+    Ok(target_at(alloc, authority, parts, secure, &text[end..])?)
 }
 
 // a path and a query of this host
 fn read_path(alloc: Global, text: &[u8], host: &[u8], secure: bool) -> Result<Target, TargetFault>
     ensures { Reads (target_after (endpoint_of host.now) secure (first_wrong_of_path text.now) text.now) result }
 {
-    let endpoint = Endpoint::read(alloc, host)?;
-    match first_wrong_of_path(text) {
-        Some(fault) => Err(fault),
-        None => Ok(target_at(alloc, endpoint, secure, text)?),
+    let parts = endpoint_parts(host)?;
+    if let Some(fault) = first_wrong_of_path(text) {
+        return Err(fault);
     }
+    Ok(target_at(alloc, host, parts, secure, text)?)
 }
 
 // how many bytes stand before the first `/` or `?`
@@ -224,22 +233,26 @@ fn length_before_path(text: &[u8]) -> usize
         .count()
 }
 
-// the target at this endpoint with this path and query
+// the target at the endpoint of these parts with this path and query
 fn target_at(
     alloc: Global,
-    endpoint: Endpoint,
+    authority: &[u8],
+    parts: EndpointParts,
     secure: bool,
     text: &[u8],
 ) -> Result<Target, AllocError>
-    ensures { IfOk result (λ target. target ≡ target_at endpoint secure text.now) }
+    requires within { parts.host_length ≤ length authority.now }
+    requires short { parts.host_length ≤ HOST_NAME_MAX }
+    ensures { IfOk result (λ target. target ≡ target_at (endpoint_with authority.now parts) secure text.now) }
 {
+    let host = HostName::lowered(alloc, &authority[..parts.host_length])?;
     let (path, query) = match cut_at(b'?', text) {
         Some((path, query)) => (path, Some(Text::of(alloc, query)?)),
         None => (text, None),
     };
     Ok(Target {
-        host: endpoint.host,
-        port: port_or_default(secure, endpoint.port),
+        host,
+        port: port_or_default(secure, parts.port),
         path: path_or_root(alloc, path)?,
         query,
     })
@@ -260,9 +273,9 @@ fn port_or_default(secure: bool, port: Option<u16>) -> u16
     ensures { result ≡ port_or_default secure port }
 {
     match port {
-        Some(443) if secure => 80,
+        Some(HTTPS_PORT) if secure => HTTP_PORT,
         Some(port) => port,
-        None => 80,
+        None => HTTP_PORT,
     }
 }
 
@@ -270,7 +283,8 @@ fn port_or_default(secure: bool, port: Option<u16>) -> u16
 #[tactic(auto, unfolding(crate::specs::Target::first_wrong))]
 fn first_wrong(text: &[u8], from: usize) -> Option<TargetFault>
     requires { from ≤ length text.now }
-    ensures { result ≡ first_wrong from (drop from text.now) }
+    ensures first { result ≡ first_wrong from (drop from text.now) }
+    ensures wrong { IfSome result IsWrongByte }
 {
     'bytes: for at in from..text.len() {
         if !is_taken(text[at], &text[at + 1..]) {
@@ -282,7 +296,8 @@ fn first_wrong(text: &[u8], from: usize) -> Option<TargetFault>
 
 // the first wrong byte of a path and a query, of which the path begins with `/`
 fn first_wrong_of_path(text: &[u8]) -> Option<TargetFault>
-    ensures { result ≡ first_wrong_of_path text.now }
+    ensures first { result ≡ first_wrong_of_path text.now }
+    ensures wrong { IfSome result IsWrongByte }
 {
     if text.is_empty() {
         return Some(TargetFault::NotOrigin { at: 0 });
@@ -297,7 +312,8 @@ fn first_wrong_of_path(text: &[u8]) -> Option<TargetFault>
 }
 
 fn wrong_byte(byte: u8, at: usize) -> TargetFault
-    ensures { result ≡ wrong_byte byte at }
+    ensures value { result ≡ wrong_byte byte at }
+    ensures wrong { IsWrongByte result }
 {
     if byte == b'%' {
         TargetFault::BadPercent { at }
@@ -307,34 +323,16 @@ fn wrong_byte(byte: u8, at: usize) -> TargetFault
 }
 
 // whether a path or a query has this byte before these
+#[inline]
 fn is_taken(byte: u8, bytes: &[u8]) -> bool
     ensures { result ≡ is_taken byte bytes.now }
 {
-    if byte == b'%' {
-        bytes.len() >= 2 && bytes[0].is_ascii_hexdigit() && bytes[1].is_ascii_hexdigit()
-    } else {
-        is_plain(byte) || byte == b'/' || byte == b'?'
-    }
+    is_query_byte(byte) || (byte == b'%' && begins_with_digits(bytes))
 }
 
-// a pchar of one byte (RFC 3986, section 3.3)
-fn is_plain(byte: u8) -> bool
-    ensures { result ≡ is_plain byte }
+// whether two hexadecimal digits stand at the front
+fn begins_with_digits(bytes: &[u8]) -> bool
+    ensures { result ≡ begins_with_digits bytes.now }
 {
-    is_unreserved(byte) || is_sub_delimiter(byte) || byte == b':' || byte == b'@'
-}
-
-fn is_unreserved(byte: u8) -> bool
-    ensures { result ≡ is_unreserved byte }
-{
-    byte.is_ascii_alphanumeric() || byte == b'-' || byte == b'.' || byte == b'_' || byte == b'~'
-}
-
-fn is_sub_delimiter(byte: u8) -> bool
-    ensures { result ≡ is_sub_delimiter byte }
-{
-    matches!(
-        byte,
-        b'!' | b'$' | b'&' | b'\'' | b'(' | b')' | b'*' | b'+' | b',' | b';' | b'='
-    )
+    bytes.len() >= 2 && bytes[0].is_ascii_hexdigit() && bytes[1].is_ascii_hexdigit()
 }

@@ -3,7 +3,7 @@
 ghost use Rattle.std.specs.Prelude.{◌≡◌, ◌++◌, IfOk, OnOk};
 ghost use Rattle.cdni_base.specs.Target.{scheme_text, port_text, query_text, url_of};
 
-use crate::endpoint::HostName;
+use crate::host_name::HostName;
 use itoa::Buffer;
 use listing::Text;
 use std::alloc::{AllocError, Global};
@@ -22,7 +22,7 @@ pub(crate) fn url_of(
 {
     let mut url = Vec::with_capacity(alloc, most_bytes(host, path, query))?;
     url.extend_from_slice(scheme_text(secure))?;
-    url.extend_from_slice(host.0.bytes())?;
+    url.extend_from_slice(host.bytes())?;
     add_port(&mut url, port)?;
     url.extend_from_slice(path.bytes())?;
     add_query(&mut url, query)?;
@@ -37,7 +37,7 @@ fn most_bytes(host: &HostName, path: &Text, query: &Option<Text>) -> usize {
     };
     "https://:65535?"
         .len()
-        .saturating_add(host.0.bytes().len())
+        .saturating_add(host.bytes().len())
         .saturating_add(path.bytes().len())
         .saturating_add(query)
 }

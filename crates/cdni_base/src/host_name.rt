@@ -1,0 +1,58 @@
+//! Hosts (RFC 3986, section 3.2.2, in the form of this project).
+
+ghost use Rattle.std.specs.Prelude.{◌≡◌, ◌≤◌, length, IfOk};
+ghost use Rattle.std.specs.Str.{str_to_ascii_lowercase};
+ghost use Rattle.cdni_base.specs.declared.host_name.TheConstants.{HOST_NAME_MAX};
+
+use listing::Text;
+use std::alloc::{AllocError, Global};
+use std::marker::Model;
+
+/// The most bytes of a host.
+pub const HOST_NAME_MAX: usize = 255;
+
+/// A host, in lower case: a name or address of 1 to 255 bytes, or an address in brackets. It is seen as its bytes, of which
+/// there are never more than 255.
+#[derive(Clone, Drop)]
+pub struct HostName(pub Text);
+
+impl Model for HostName {
+    ghost use Rattle.std.specs.Prelude.{ℕ, ◌≤◌, List, length};
+    ghost use Rattle.cdni_base.specs.declared.host_name.TheConstants.{HOST_NAME_MAX};
+
+    ghost Value = { List ℕ };
+
+    ghost view = { λ host. host.0 };
+
+    ghost invariant = { λ host. length host.0 ≤ HOST_NAME_MAX };
+}
+
+impl HostName {
+    /// The bytes, at most 255.
+    pub fn bytes(&self) -> &[u8]
+        ensures bytes { result.now ≡ self.now }
+        ensures short { length self.now ≤ HOST_NAME_MAX }
+    {
+        self.0.bytes()
+    }
+
+    // the bytes in lower case
+    pub(crate) fn lowered(alloc: Global, bytes: &[u8]) -> Result<HostName, AllocError>
+        requires { length bytes.now ≤ HOST_NAME_MAX }
+        ensures { IfOk result (λ host. host ≡ str_to_ascii_lowercase bytes.now) }
+    {
+        Ok(HostName(lowered(alloc, bytes)?))
+    }
+}
+
+// the bytes in lower case
+pub(crate) fn lowered(alloc: Global, bytes: &[u8]) -> Result<Text, AllocError>
+    ensures { IfOk result (λ text. text ≡ str_to_ascii_lowercase bytes.now) }
+{
+    Ok(Text::from_vec(
+        bytes
+            .iter()
+            .map(|byte| byte.to_ascii_lowercase())
+            .collect(alloc)?,
+    ))
+}

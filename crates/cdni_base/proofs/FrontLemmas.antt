@@ -13,7 +13,8 @@ use Rattle.cdni_base.specs.declared.endpoint.EndpointFault.{EndpointFault}
 use Rattle.cdni_base.specs.declared.endpoint.EndpointFault.TheVariants.{BadHost, BadPort, Memory}
 use Rattle.cdni_base.specs.Endpoint.{is_name_byte, is_address_byte, host_length, host_front, port_front, port_number, port_of_digits, port_of, endpoint_at, endpoint_of, ReadsEndpoint}
 use Rattle.cdni_base.specs.Grammar.{IsName, IsBracketed, IsHost, IsPort, IsPortPart}
-use Rattle.cdni_base.specs.Fronts.{IsSomeEndpoint, IsLongestFront, StandsAtFront}
+use Rattle.listing.specs.Fronts.{IsLongestFront}
+use Rattle.cdni_base.specs.Fronts.{IsSomeEndpoint, StandsAtFront}
 use Rattle.cdni_base.proofs.EndpointLemmas.{all_of_prefix, folded, folded-le, value_is, host_of_length, first_cases, host_length-le, host_is_read, bracketed_is_read, name_length, host_rest, name_first, endpoint_parts, no_endpoint, port_after, no_port_after, no_port, of_number, digits_port}
 
 -- a prefix of both sides

@@ -15,7 +15,8 @@ use Rattle.cdni_base.specs.declared.target.TargetFault.{TargetFault}
 use Rattle.cdni_base.specs.declared.target.TargetFault.TheVariants.{TooLong, NoHost, BadHost, NotOrigin, BadPercent, Memory}
 use Rattle.cdni_base.specs.Endpoint.{endpoint_of}
 use Rattle.cdni_base.specs.Target.{scheme_of, scheme_length, is_https, is_before_path, is_taken, wrong_byte, first_wrong, first_wrong_of_path, target_at, target_after, absolute_target, target_by, target_of, ReadsTarget}
-use Rattle.cdni_base.specs.Fronts.{IsSomeEndpoint, IsLongestFront, endpoint_text, StandsInEndpoint}
+use Rattle.listing.specs.Fronts.{IsLongestFront}
+use Rattle.cdni_base.specs.Fronts.{IsSomeEndpoint, endpoint_text, StandsInEndpoint}
 use Rattle.cdni_base.proofs.FrontLemmas.{bad_host_stands, bad_port_stands, ok_err, err_same}
 use Rattle.cdni_base.proofs.TargetLemmas.{absolute_parts, within_limit, past_limit}
 

@@ -4,6 +4,7 @@ use Rattle.std.specs.List.{prefix_len}
 use Rattle.std.specs.Option.{option_map_or}
 use Rattle.std.specs.declared.option.Option.{Option}
 use Rattle.std.specs.declared.result.Result.{Result}
+use Rattle.listing.specs.Fronts.{IsLongestFront}
 use Rattle.cdni_base.specs.declared.endpoint.Endpoint.{Endpoint}
 use Rattle.cdni_base.specs.declared.endpoint.EndpointFault.{EndpointFault}
 use Rattle.cdni_base.specs.declared.endpoint.EndpointFault.TheVariants as endpoint_fault
@@ -12,12 +13,6 @@ use Rattle.cdni_base.specs.declared.target.TargetFault.{TargetFault}
 use Rattle.cdni_base.specs.declared.target.TargetFault.TheVariants as target_fault
 use Rattle.cdni_base.specs.Target.{scheme_of, scheme_length, is_before_path}
 use Rattle.cdni_base.specs.Grammar.{IsEndpoint}
-
--- the longest prefix of the text with which some accepted text begins has this length
-pub record IsLongestFront (IsAccepted : List ℕ → Type 0) (text : List ℕ) (at : ℕ) : Type 0 where
-  pub within : at ≤ length text
-  pub begins : (rest : List ℕ) × IsAccepted (take at text ++ rest)
-  pub longest : (n : ℕ) (rest : List ℕ) → n ≤ length text → IsAccepted (take n text ++ rest) → n ≤ at
 
 -- the text is some endpoint
 abbrev pub IsSomeEndpoint : List ℕ → Type 0

@@ -1,5 +1,9 @@
 -- Cache keys: what of a target tells one kept object from another.
-use Rattle.std.specs.Prelude.{◌≡◌, ℕ, Bool, true, false, not, List, [], ◌∷◌, filter, None, Some, bytes_eq, ◌==◌, IsTrue}
+use Rattle.std.specs.Prelude.{◌≡◌, ℕ, Bool, true, false, not, List, [], ◌∷◌, ◌++◌, filter, None, Some, bytes_eq, nat_eq, ◌==◌, ◌&&◌, IsTrue}
+use Rattle.std.specs.Cmp.Lexicographic.{pointwise}
+use Rattle.std.specs.Hash as fed
+use Rattle.std.specs.Hash.{HashWrites}
+use Rattle.std.specs.Option.{option_eq}
 use Rattle.std.specs.List.{slice_split, before_first, join_with_byte, list_any, list_all}
 use Rattle.std.specs.Str.{str_to_ascii_lowercase}
 use Rattle.std.specs.declared.option.Option.{Option}
@@ -57,3 +61,25 @@ AreIgnored names pieces = IsTrue (list_all (λ piece. not (is_kept names piece))
 abbrev pub IsSameBut : List (List ℕ) → Target → Target → Type 0
 IsSameBut names target other = (target.host ≡ other.host) × (target.port ≡ other.port) × (target.path ≡ other.path)
     × (filter (is_kept names) (pieces_of target.query) ≡ filter (is_kept names) (pieces_of other.query))
+
+-- the same is ignored
+abbrev pub same_ignored : Ignored → Ignored → Bool
+same_ignored ignored.None ignored.None = true
+same_ignored ignored.All ignored.All = true
+same_ignored (ignored.Names names) (ignored.Names others) = pointwise bytes_eq names others
+same_ignored ignored other = false
+
+-- all parts of the keys are the same
+abbrev pub same_key : KeyParts → KeyParts → Bool
+same_key key other = nat_eq key.port other.port
+    && (bytes_eq key.path other.path && (bytes_eq key.host other.host && (option_eq bytes_eq key.query other.query && same_ignored key.ignored other.ignored)))
+
+-- what a hasher is fed of what is ignored: the variant's number, and then the names
+abbrev pub fed_ignored : Ignored → HashWrites
+fed_ignored ignored.None = fed.u8 0
+fed_ignored ignored.All = fed.u8 1
+fed_ignored (ignored.Names names) = fed.u8 2 ++ fed.slice (fed.slice fed.u8) names
+
+-- what a hasher is fed of a key: its URL
+abbrev pub fed_key : KeyParts → HashWrites
+fed_key key = fed.slice fed.u8 (key_text false true key)

@@ -8,3 +8,4 @@ pub mod Rule
 pub mod Scratch
 pub mod Target
 pub mod TypeName
+pub mod KeyEqualityLemmas

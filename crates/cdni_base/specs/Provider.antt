@@ -10,7 +10,7 @@ use Rattle.cdni_base.specs.declared.provider.ProviderId.{ProviderId}
 use Rattle.cdni_base.specs.declared.provider.ProviderFault.{ProviderFault}
 use Rattle.cdni_base.specs.declared.provider.ProviderFault.TheVariants.{Bad, Memory}
 use Rattle.cdni_base.specs.Endpoint.{is_name_byte}
-use Rattle.cdni_base.specs.Fronts.{IsLongestFront}
+use Rattle.listing.specs.Fronts.{IsLongestFront}
 
 -- the text is `AS`, 1 to 10 digits, `:`, and 1 to 64 letters, digits, `-`, `.` and `_`
 abbrev pub IsProvider : List ℕ → Type 0

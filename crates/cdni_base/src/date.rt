@@ -7,13 +7,14 @@ ghost use Rattle.cdni_base.specs.Scratch.{Puts};
 
 use crate::scratch::Scratch;
 use httpdate::HttpDate;
+use listing::Moment;
 
 /// The first moment of the year 10000, in milliseconds since the beginning of 1970, UTC.
-pub const DATE_END: u64 = 253402300800000;
+pub const DATE_END: Moment = 253402300800000;
 
-/// Puts the HTTP date of the second in which `moment` (milliseconds since the beginning of 1970, UTC) falls, as
+/// Puts the HTTP date of the second in which `moment` falls, as
 /// `Fri, 17 May 2013 00:38:06 GMT`. False exactly where its 29 bytes do not fit; then nothing changes.
-pub fn put_date(out: &mut Scratch, moment: u64) -> bool
+pub fn put_date(out: &mut Scratch, moment: Moment) -> bool
     requires { moment < DATE_END }
     ensures { (date : Date) × (unix_secs date ≡ moment / 1000) × Puts out.old out.new (date_text date) result }
 {

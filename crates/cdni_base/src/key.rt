@@ -5,13 +5,17 @@ ghost use Rattle.std.specs.List.{position_or_len, list_any};
 ghost use Rattle.std.specs.Str.{str_to_ascii_lowercase};
 ghost use Rattle.std.specs.Option.{option_map};
 ghost use Rattle.cdni_base.specs.Target.{query_text};
-ghost use Rattle.cdni_base.specs.Key.{pieces_of, is_kept, joined, kept_query, key_of, key_text};
+ghost use Rattle.std.specs.Cmp.{decided, partial_equiv_from_equiv};
+ghost use Rattle.std.specs.Hash.{same_Alike};
+ghost use Rattle.cdni_base.specs.Key.{pieces_of, is_kept, joined, kept_query, key_of, key_text, same_ignored, same_key, fed_ignored, fed_key};
+ghost use Rattle.cdni_base.specs.KeyEqualityLemmas.{ignored_decides, key_decides};
 
 use crate::host_name::HostName;
 use crate::target::Target;
 use crate::url::url_of;
 use listing::{Text, TextList, cut_at};
 use std::alloc::{AllocError, Global};
+use std::hash::{Hash, Hasher};
 use std::marker::Model;
 
 /// Which part of a query plays no part in a key (RFC 8006, section 4.2.6, `ignore-query-string`).
@@ -111,6 +115,79 @@ impl Key {
             && self.host.0.is(target.host.bytes())
             && self.path.is(target.path.bytes())
             && is_kept_query(&self.ignored, &target.query, &self.query)
+    }
+}
+
+/// Whether the keys are the same in all their parts.
+pub fn is_same_key(key: &Key, other: &Key) -> bool
+    ensures { IsTrue result ↔ (key.now ≡ other.now) }
+{
+    *key == *other
+}
+
+impl PartialEq for Ignored {
+    ghost eq = { same_ignored };
+
+    ghost laws = { partial_equiv_from_equiv (decided same_ignored ignored_decides) };
+
+    /// Whether the same is ignored, the names in the same order.
+    fn eq(&self, other: &Ignored) -> bool {
+        match (self, other) {
+            (Ignored::None, Ignored::None) | (Ignored::All, Ignored::All) => true,
+            (Ignored::Names(names), Ignored::Names(others)) => names == others,
+            _ => false,
+        }
+    }
+}
+
+impl Eq for Ignored {
+    ghost laws = { decided same_ignored ignored_decides };
+}
+
+impl Hash for Ignored {
+    ghost hash_input = { fed_ignored };
+
+    ghost respects_eq = { (same_Alike fed_ignored ignored_decides).fed };
+
+    fn hash<H: Hasher>(&self, state: &mut H) {
+        match self {
+            Ignored::None => 0u8.hash(state),
+            Ignored::All => 1u8.hash(state),
+            Ignored::Names(names) => {
+                2u8.hash(state);
+                names.hash(state);
+            }
+        }
+    }
+}
+
+impl PartialEq for Key {
+    ghost eq = { same_key };
+
+    ghost laws = { partial_equiv_from_equiv (decided same_key key_decides) };
+
+    /// Whether the keys are the same in all their parts.
+    fn eq(&self, other: &Key) -> bool {
+        self.port == other.port
+            && self.path == other.path
+            && self.host == other.host
+            && self.query == other.query
+            && self.ignored == other.ignored
+    }
+}
+
+impl Eq for Key {
+    ghost laws = { decided same_key key_decides };
+}
+
+impl Hash for Key {
+    ghost hash_input = { fed_key };
+
+    ghost respects_eq = { (same_Alike fed_key key_decides).fed };
+
+    /// Feeds the key's URL.
+    fn hash<H: Hasher>(&self, state: &mut H) {
+        self.text(false, true).hash(state);
     }
 }
 

@@ -5,7 +5,6 @@ ghost use Rattle.std.specs.Str.{str_to_ascii_lowercase};
 ghost use Rattle.cdni_base.specs.TypeName.{named};
 ghost use Rattle.cdni_base.specs.declared.type_name.TheConstants.{TYPE_NAME_MAX};
 
-use crate::host_name::lowered;
 use listing::Text;
 use std::alloc::{AllocError, Global};
 use std::marker::Model;
@@ -52,7 +51,7 @@ impl TypeName {
         if bytes.len() > TYPE_NAME_MAX {
             return Ok(None);
         }
-        Ok(Some(TypeName(lowered(alloc, bytes)?)))
+        Ok(Some(TypeName(Text::lowered(alloc, bytes)?)))
     }
 
     /// The bytes, at most 127.

@@ -17,14 +17,18 @@ use Rattle.cdni_base.specs.declared.target.TargetFault.{TargetFault}
 use Rattle.cdni_base.specs.declared.target.TargetFault.TheVariants as target_fault
 use Rattle.cdni_base.specs.Endpoint.{is_name_byte, is_address_byte}
 use Rattle.cdni_base.specs.Target.{is_plain, is_https, port_or_default, query_text}
+use Rattle.cdni_base.specs.declared.byte.TheConstants.{CLOSING, COLON, OPENING, PERCENT, QUESTION, SLASH}
+use Rattle.cdni_base.specs.declared.endpoint.TheConstants.{PORT_DIGITS, PORT_MAX}
+use Rattle.cdni_base.specs.declared.host_name.TheConstants.{HOST_NAME_MAX}
+use Rattle.cdni_base.specs.declared.target.TheConstants.{TARGET_MAX}
 
 -- a name: 1 to 255 letters, digits, `.`, `-` and `_`
 abbrev pub IsName : List ℕ → Type 0
-IsName text = (0 < length text) × (length text ≤ 255) × IsTrue (list_all is_name_byte text)
+IsName text = (0 < length text) × (length text ≤ HOST_NAME_MAX) × IsTrue (list_all is_name_byte text)
 
 -- an address in brackets, at most 255 bytes together: `[`, one or more hexadecimal digits, `:` and `.`, and `]`
 abbrev pub IsBracketed : List ℕ → Type 0
-IsBracketed text = (address : List ℕ) × (text ≡ 91 ∷ (address ++ 93 ∷ [])) × (0 < length address) × (length text ≤ 255) × IsTrue (list_all is_address_byte address)
+IsBracketed text = (address : List ℕ) × (text ≡ OPENING ∷ (address ++ CLOSING ∷ [])) × (0 < length address) × (length text ≤ HOST_NAME_MAX) × IsTrue (list_all is_address_byte address)
 
 -- host (RFC 3986, section 3.2.2)
 abbrev pub IsHost : List ℕ → Type 0
@@ -33,12 +37,12 @@ IsHost text = IsName text ⊎ IsBracketed text
 -- port (RFC 3986, section 3.2.3): 1 to 5 digits that write 1 to 65535
 abbrev pub IsPort : List ℕ → ℕ → Type 0
 IsPort digits port =
-    (0 < length digits) × (length digits ≤ 5) × IsTrue (all_ascii_digits digits) × (digits_value 10 digits ≡ port) × (1 ≤ port) × (port ≤ 65535)
+    (0 < length digits) × (length digits ≤ PORT_DIGITS) × IsTrue (all_ascii_digits digits) × (digits_value 10 digits ≡ port) × (1 ≤ port) × (port ≤ PORT_MAX)
 
 -- what follows a host: nothing, or `:` and a port, which may be absent there
 abbrev pub IsPortPart : List ℕ → Option ℕ → Type 0
-IsPortPart text None = (text ≡ []) ⊎ (text ≡ 58 ∷ [])
-IsPortPart text (Some port) = (digits : List ℕ) × (text ≡ 58 ∷ digits) × IsPort digits port
+IsPortPart text None = (text ≡ []) ⊎ (text ≡ COLON ∷ [])
+IsPortPart text (Some port) = (digits : List ℕ) × (text ≡ COLON ∷ digits) × IsPort digits port
 
 -- a host, which reads in lower case, and a port, where one is given (RFC 3986, section 3.2)
 abbrev pub IsEndpoint : List ℕ → Endpoint → Type 0
@@ -49,7 +53,7 @@ IsEndpoint text endpoint =
 abbrev pub IsCharacter : (ℕ → Bool) → List ℕ → Type 0
 IsCharacter test text =
     ((byte : ℕ) × (text ≡ byte ∷ []) × IsTrue (test byte)) ⊎
-    ((high : ℕ) × (low : ℕ) × (text ≡ 37 ∷ high ∷ low ∷ []) × IsTrue (is_ascii_hexdigit high) × IsTrue (is_ascii_hexdigit low))
+    ((high : ℕ) × (low : ℕ) × (text ≡ PERCENT ∷ high ∷ low ∷ []) × IsTrue (is_ascii_hexdigit high) × IsTrue (is_ascii_hexdigit low))
 
 -- each is such a character
 abbrev pub AreCharacters : (ℕ → Bool) → List (List ℕ) → Type 0
@@ -62,14 +66,14 @@ IsRow test text = (characters : List (List ℕ)) × (text ≡ concat characters)
 
 -- pchar and `/`, and in a query `?` too (RFC 3986, sections 3.3 and 3.4)
 abbrev pub is_path_byte : ℕ → Bool
-is_path_byte byte = is_plain byte || byte == 47
+is_path_byte byte = is_plain byte || byte == SLASH
 
 abbrev pub is_query_byte : ℕ → Bool
-is_query_byte byte = is_plain byte || byte == 47 || byte == 63
+is_query_byte byte = is_plain byte || byte == SLASH || byte == QUESTION
 
 -- path, which begins with `/` (RFC 3986, section 3.3)
 abbrev pub IsPath : List ℕ → Type 0
-IsPath text = (rest : List ℕ) × (text ≡ 47 ∷ rest) × IsRow is_path_byte rest
+IsPath text = (rest : List ℕ) × (text ≡ SLASH ∷ rest) × IsRow is_path_byte rest
 
 -- query, where there is one (RFC 3986, section 3.4)
 abbrev pub IsQuery : Option (List ℕ) → Type 0
@@ -82,7 +86,7 @@ IsPathAndQuery text path query = (text ≡ path ++ query_text query) × IsPath p
 
 -- the same without a path, which reads as `/`
 abbrev pub IsQueryAlone : List ℕ → List ℕ → Option (List ℕ) → Type 0
-IsQueryAlone text path query = (text ≡ query_text query) × (path ≡ 47 ∷ []) × IsQuery query
+IsQueryAlone text path query = (text ≡ query_text query) × (path ≡ SLASH ∷ []) × IsQuery query
 
 -- the target is at this endpoint, where a port of 80 may be absent, and one of 443 where `secure`
 abbrev pub IsAt : Endpoint → Bool → Target → Type 0
@@ -108,7 +112,7 @@ IsOfHost text (Some host) secure target =
 
 -- the text is this target, where it is asked of this host by a connection that is secure or not
 abbrev pub IsTarget : List ℕ → Option (List ℕ) → Bool → Target → Type 0
-IsTarget text host secure target = (length text ≤ 4096) × (IsAbsolute text target ⊎ IsOfHost text host secure target)
+IsTarget text host secure target = (length text ≤ TARGET_MAX) × (IsAbsolute text target ⊎ IsOfHost text host secure target)
 
 -- a reader of endpoints answers the value of the text; or a fault, where the text has none; or finds no memory
 abbrev pub AnswersEndpoint : List ℕ → Result Endpoint EndpointFault → Type 0

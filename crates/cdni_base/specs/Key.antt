@@ -11,6 +11,7 @@ use Rattle.cdni_base.specs.declared.key.Ignored.{Ignored}
 use Rattle.cdni_base.specs.declared.key.Ignored.TheVariants as ignored
 use Rattle.cdni_base.specs.declared.target.Target.{Target}
 use Rattle.cdni_base.specs.Target.{url_of}
+use Rattle.cdni_base.specs.declared.byte.TheConstants.{AMPERSAND, EQUALS}
 
 -- a key, without its URL texts, which the others give
 pub record KeyParts : Type 0 where
@@ -23,11 +24,11 @@ pub record KeyParts : Type 0 where
 -- the pieces of a query, which stand between its `&`; where there is no query there are none
 abbrev pub pieces_of : Option (List ℕ) → List (List ℕ)
 pieces_of None = []
-pieces_of (Some query) = slice_split (λ byte. byte == 38) query
+pieces_of (Some query) = slice_split (λ byte. byte == AMPERSAND) query
 
 -- the name of a piece, in lower case: what stands before its first `=`, or the whole where there is none
 abbrev pub name_of : List ℕ → List ℕ
-name_of piece = str_to_ascii_lowercase (before_first (λ byte. byte == 61) piece)
+name_of piece = str_to_ascii_lowercase (before_first (λ byte. byte == EQUALS) piece)
 
 -- the piece is kept, since its name is none of these
 abbrev pub is_kept : List (List ℕ) → List ℕ → Bool
@@ -36,7 +37,7 @@ is_kept names piece = not (list_any (λ name. bytes_eq name (name_of piece)) nam
 -- these pieces in order, joined by `&`; absent where there are none
 abbrev pub joined : List (List ℕ) → Option (List ℕ)
 joined [] = None
-joined (piece ∷ pieces) = Some (join_with_byte 38 (piece ∷ pieces))
+joined (piece ∷ pieces) = Some (join_with_byte AMPERSAND (piece ∷ pieces))
 
 -- what is kept of the query of a target
 abbrev pub kept_query : Ignored → Option (List ℕ) → Option (List ℕ)

@@ -1,11 +1,11 @@
 -- The tests of keys decide whether the keys are the same.
 use Rattle.std.specs.Prelude.{◌≡◌, ℕ, Bool, true, false, ◌&&◌, List, None, Some, bytes_eq, nat_eq}
 use Rattle.std.specs.Bool.{Decides}
-use Rattle.std.specs.Cmp.{first_so, second_so, unsigned_Decides}
-use Rattle.std.specs.Cmp.Lexicographic.{pointwise, pointwise_decides, bytes_decides}
+use Rattle.std.specs.Cmp.{unsigned_Decides}
+use Rattle.std.specs.Cmp.Lexicographic.{pointwise_decides, bytes_decides}
 use Rattle.std.specs.Option.{option_eq}
 use Rattle.std.specs.declared.option.Option.{Option}
-use mathlib.Core.Path.{refl, sym, ap, ◌∙◌}
+use mathlib.Core.Path.{refl, sym, ap}
 use mathlib.Core.Bool.{true≢false}
 use Rattle.cdni_base.specs.declared.key.Ignored.{Ignored}
 use Rattle.cdni_base.specs.declared.key.Ignored.TheVariants as ignored
@@ -68,6 +68,6 @@ parts_decide a b =
 
 pub key_decides : (a b : KeyParts) → Decides (same_key a b) (a ≡ b)
 key_decides a b = (
-    λ e. let same = (parts_decide a b).0 e in λ i. record { host = same.1.1.0 i; port = same.0 i; path = same.1.0 i; query = same.1.1.1.0 i; ignored = same.1.1.1.1 i },
-    λ e. (parts_decide a b).1 (ap (λ k. k.port) e, (ap (λ k. k.path) e, (ap (λ k. k.host) e, (ap (λ k. k.query) e, ap (λ k. k.ignored) e)))),
-  )
+  λ e. let same = (parts_decide a b).0 e in λ i. record { host = same.1.1.0 i; port = same.0 i; path = same.1.0 i; query = same.1.1.1.0 i; ignored = same.1.1.1.1 i },
+  λ e. (parts_decide a b).1 (ap (λ k. k.port) e, (ap (λ k. k.path) e, (ap (λ k. k.host) e, (ap (λ k. k.query) e, ap (λ k. k.ignored) e)))),
+)

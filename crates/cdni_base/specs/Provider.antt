@@ -11,13 +11,15 @@ use Rattle.cdni_base.specs.declared.provider.ProviderFault.{ProviderFault}
 use Rattle.cdni_base.specs.declared.provider.ProviderFault.TheVariants.{Bad, Memory}
 use Rattle.cdni_base.specs.Endpoint.{is_name_byte}
 use Rattle.listing.specs.Fronts.{IsLongestFront}
+use Rattle.cdni_base.specs.declared.byte.TheConstants.{COLON}
+use Rattle.cdni_base.specs.declared.provider.TheConstants.{AS_DIGITS, QUALIFIER_MAX}
 
 -- the text is `AS`, 1 to 10 digits, `:`, and 1 to 64 letters, digits, `-`, `.` and `_`
 abbrev pub IsProvider : List ℕ → Type 0
 IsProvider text =
-    (digits : List ℕ) × (qualifier : List ℕ) × (text ≡ 65 ∷ 83 ∷ (digits ++ 58 ∷ qualifier)) ×
-    (1 ≤ length digits) × (length digits ≤ 10) × IsTrue (all_ascii_digits digits) ×
-    (1 ≤ length qualifier) × (length qualifier ≤ 64) × IsTrue (list_all is_name_byte qualifier)
+    (digits : List ℕ) × (qualifier : List ℕ) × (text ≡ 65 ∷ 83 ∷ (digits ++ COLON ∷ qualifier)) ×
+    (1 ≤ length digits) × (length digits ≤ AS_DIGITS) × IsTrue (all_ascii_digits digits) ×
+    (1 ≤ length qualifier) × (length qualifier ≤ QUALIFIER_MAX) × IsTrue (list_all is_name_byte qualifier)
 
 -- the text is this provider id, which is kept as it was sent
 abbrev pub IsProviderId : List ℕ → ProviderId → Type 0
@@ -30,11 +32,11 @@ as_length text = if slice_index text 0 == 65 then (if slice_index text 1 == 83 t
 -- The place of the first byte with which no provider id goes on, or of the end where more has to follow; none where the text
 -- is one. First of a qualifier that begins at this place and has so many bytes, then of a number with so many digits.
 abbrev pub wrong_qualifier : List ℕ → ℕ → ℕ → Option ℕ
-wrong_qualifier text start count = if nat_lt 0 count && nat_le count 64 && start + count == length text then None else Some (start + min count 64)
+wrong_qualifier text start count = if nat_lt 0 count && nat_le count QUALIFIER_MAX && start + count == length text then None else Some (start + min count QUALIFIER_MAX)
 
 abbrev pub wrong_number : List ℕ → ℕ → Option ℕ
-wrong_number text count = if nat_lt 0 count && nat_le count 10 && slice_index text (count + 2) == 58
-    then wrong_qualifier text (count + 3) (prefix_len is_name_byte (drop (count + 3) text)) else Some (min count 10 + 2)
+wrong_number text count = if nat_lt 0 count && nat_le count AS_DIGITS && slice_index text (count + 2) == COLON
+    then wrong_qualifier text (count + 3) (prefix_len is_name_byte (drop (count + 3) text)) else Some (min count AS_DIGITS + 2)
 
 unfoldable pub wrong_place : List ℕ → Option ℕ
 wrong_place text = if as_length text == 2 then wrong_number text (prefix_len is_ascii_digit (drop 2 text)) else Some (as_length text)

@@ -1,6 +1,6 @@
 -- Targets: what a URL names (RFC 3986, section 3; RFC 9112, section 3.2), read by computing the value or the first fault.
 use Rattle.std.specs.Prelude.{◌≡◌, ℕ, ◌+◌, ◌-◌, Bool, true, false, List, [], ◌∷◌, ◌++◌, length, take, drop, slice_index, None, Some, Ok, Err, IsOk, codes, decimal, bytes_eq, ◌==◌, ◌&&◌, ◌||◌, nat_lt, if◌then◌else◌}
-use Rattle.std.specs.List.{prefix_len}
+use Rattle.std.specs.List.{prefix_len, list_any}
 use Rattle.std.specs.Option.{option_map_or}
 use Rattle.std.specs.Char.{is_ascii_hexdigit, is_ascii_alphanumeric}
 use Rattle.std.specs.Str.{str_to_ascii_lowercase}
@@ -16,18 +16,20 @@ use Rattle.cdni_base.specs.declared.target.Target.{Target}
 use Rattle.cdni_base.specs.declared.target.TargetFault.{TargetFault}
 use Rattle.cdni_base.specs.declared.target.TargetFault.TheVariants.{TooLong, NoHost, BadHost, NotOrigin, BadPercent, Memory}
 use Rattle.cdni_base.specs.Endpoint.{endpoint_of}
+use Rattle.cdni_base.specs.declared.byte.TheConstants.{AT, COLON, DASH, DOT, PERCENT, QUESTION, SLASH, TILDE, UNDERSCORE}
+use Rattle.cdni_base.specs.declared.target.TheConstants.{HTTPS_PORT, HTTP_PORT, TARGET_MAX}
 
 -- unreserved (RFC 3986, section 2.3)
 abbrev pub is_unreserved : ℕ → Bool
-is_unreserved byte = is_ascii_alphanumeric byte || byte == 45 || byte == 46 || byte == 95 || byte == 126
+is_unreserved byte = is_ascii_alphanumeric byte || byte == DASH || byte == DOT || byte == UNDERSCORE || byte == TILDE
 
 -- sub-delims (RFC 3986, section 2.2): one of `!$&'()*+,;=`
 abbrev pub is_sub_delimiter : ℕ → Bool
-is_sub_delimiter byte = byte == 33 || byte == 36 || byte == 38 || byte == 39 || byte == 40 || byte == 41 || byte == 42 || byte == 43 || byte == 44 || byte == 59 || byte == 61
+is_sub_delimiter byte = list_any (λ delimiter. byte == delimiter) (codes "!$&'()*+,;=")
 
 -- a pchar that is one byte (RFC 3986, section 3.3): unreserved, sub-delims, `:` or `@`
 abbrev pub is_plain : ℕ → Bool
-is_plain byte = is_unreserved byte || is_sub_delimiter byte || byte == 58 || byte == 64
+is_plain byte = is_unreserved byte || is_sub_delimiter byte || byte == COLON || byte == AT
 
 -- the text begins with this word, in any case
 abbrev pub begins_with : List ℕ → List ℕ → Bool
@@ -49,7 +51,7 @@ is_https Https = true
 
 -- a byte that does not end the endpoint of an absolute URL: no `/` and no `?`
 abbrev pub is_before_path : ℕ → Bool
-is_before_path byte = if byte == 47 || byte == 63 then false else true
+is_before_path byte = if byte == SLASH || byte == QUESTION then false else true
 
 -- two hexadecimal digits stand at the front
 abbrev pub begins_with_digits : List ℕ → Bool
@@ -57,11 +59,11 @@ begins_with_digits bytes = is_ascii_hexdigit (slice_index bytes 0) && is_ascii_h
 
 -- a byte of a path or a query, before the bytes that follow it: `/`, `?` or of a pchar; after `%` two hexadecimal digits
 abbrev pub is_taken : ℕ → List ℕ → Bool
-is_taken byte bytes = if byte == 37 then begins_with_digits bytes else is_plain byte || byte == 47 || byte == 63
+is_taken byte bytes = if byte == PERCENT then begins_with_digits bytes else is_plain byte || byte == SLASH || byte == QUESTION
 
 -- why this byte is wrong at this place
 abbrev pub wrong_byte : ℕ → ℕ → TargetFault
-wrong_byte byte at = if byte == 37 then BadPercent at else NotOrigin at
+wrong_byte byte at = if byte == PERCENT then BadPercent at else NotOrigin at
 
 -- the fault of a wrong byte
 abbrev pub IsWrongByte : TargetFault → Type 0
@@ -76,13 +78,13 @@ first_wrong at (byte ∷ bytes) = if is_taken byte bytes then first_wrong (at + 
 
 -- `/` where the path is empty
 abbrev pub path_or_root : List ℕ → List ℕ
-path_or_root [] = 47 ∷ []
+path_or_root [] = SLASH ∷ []
 path_or_root (byte ∷ bytes) = byte ∷ bytes
 
 -- 80 where the port is absent, and also where it is 443 beside `https`
 abbrev pub port_or_default : Bool → Option ℕ → ℕ
-port_or_default secure None = 80
-port_or_default secure (Some port) = if secure && port == 443 then 80 else port
+port_or_default secure None = HTTP_PORT
+port_or_default secure (Some port) = if secure && port == HTTPS_PORT then HTTP_PORT else port
 
 -- the target at this endpoint with this path and query
 abbrev pub target_with : Endpoint → Bool → List ℕ → Option (List ℕ) → Target
@@ -90,7 +92,7 @@ target_with endpoint secure path query = record { host = endpoint.host; port = p
 
 -- the same of the text of a path and a query, which is cut at its first `?`
 abbrev pub target_at : Endpoint → Bool → List ℕ → Target
-target_at endpoint secure text = option_map_or (λ parts. target_with endpoint secure parts.0 (Some parts.1)) (parts_at 63 text) (target_with endpoint secure text None)
+target_at endpoint secure text = option_map_or (λ parts. target_with endpoint secure parts.0 (Some parts.1)) (parts_at QUESTION text) (target_with endpoint secure text None)
 
 -- the fault of an endpoint as one of a target
 abbrev pub bad_host : EndpointFault → TargetFault
@@ -101,7 +103,7 @@ bad_host endpoint_fault.Memory = Memory
 -- the first wrong byte of a path and a query: a path begins with `/`
 abbrev pub first_wrong_of_path : List ℕ → Option TargetFault
 first_wrong_of_path [] = Some (NotOrigin 0)
-first_wrong_of_path (byte ∷ bytes) = if byte == 47 then first_wrong 0 (byte ∷ bytes) else (if is_taken byte bytes then Some (NotOrigin 0) else Some (wrong_byte byte 0))
+first_wrong_of_path (byte ∷ bytes) = if byte == SLASH then first_wrong 0 (byte ∷ bytes) else (if is_taken byte bytes then Some (NotOrigin 0) else Some (wrong_byte byte 0))
 
 -- the target of an endpoint, or its fault, and of a path and a query, or their first wrong byte
 abbrev pub target_after : Result Endpoint EndpointFault → Bool → Option TargetFault → List ℕ → Result Target TargetFault
@@ -126,7 +128,7 @@ target_by None text (Some host) secure = target_after (endpoint_of host) secure 
 -- The target that the text writes, or its first fault. A text without a scheme is a path and a query, which is asked of this
 -- host; there the port 443 reads as absent where the connection is secure.
 unfoldable pub target_of : List ℕ → Option (List ℕ) → Bool → Result Target TargetFault
-target_of text host secure = if nat_lt 4096 (length text) then Err (TooLong (length text)) else target_by (scheme_of text) text host secure
+target_of text host secure = if nat_lt TARGET_MAX (length text) then Err (TooLong (length text)) else target_by (scheme_of text) text host secure
 
 -- a reader of targets answers this reading; only where that is a target may it find no memory
 abbrev pub Reads : Result Target TargetFault → Result Target TargetFault → Type 0
@@ -145,12 +147,12 @@ scheme_text false = codes "http://"
 
 -- `:` and the port, where it is not 80
 abbrev pub port_text : ℕ → List ℕ
-port_text port = if port == 80 then [] else 58 ∷ decimal port
+port_text port = if port == HTTP_PORT then [] else 58 ∷ decimal port
 
 -- `?` and the query, where there is one
 abbrev pub query_text : Option (List ℕ) → List ℕ
 query_text None = []
-query_text (Some query) = 63 ∷ query
+query_text (Some query) = QUESTION ∷ query
 
 -- the URL that is made of these parts (RFC 3986, section 5.3)
 abbrev pub url_of : Bool → List ℕ → ℕ → List ℕ → Option (List ℕ) → List ℕ

@@ -3,14 +3,22 @@
 ghost use Rattle.std.specs.Prelude.{◌≡◌, ◌==◌, ◌<◌, ◌≤◌, length, slice_index, IfOk, IfErr, IsTrue};
 ghost use Rattle.std.specs.List.{prefix_len};
 ghost use Rattle.cdni_base.specs.Endpoint.{is_name_byte, is_address_byte, host_length, host_front, port_of, port_number, port_front, HasParts, ReadsEndpoint};
+ghost use Rattle.cdni_base.specs.declared.byte.TheConstants.{OPENING};
 ghost use Rattle.cdni_base.specs.declared.host_name.TheConstants.{HOST_NAME_MAX};
 ghost use Rattle.cdni_base.specs.Fronts.{StandsAtFront};
 ghost use Rattle.cdni_base.specs.Grammar.{AnswersEndpoint};
 
+use crate::byte::{CLOSING, COLON, DOT, OPENING};
 use crate::byte_class::is_name_byte;
 use crate::host_name::{HOST_NAME_MAX, HostName};
 use listing::{Listing, read_digits};
 use std::alloc::{AllocError, Global};
+
+/// The most digits of a port.
+pub const PORT_DIGITS: usize = 5;
+
+/// The greatest port.
+pub const PORT_MAX: u32 = 65535;
 
 /// A host and a port, where one is given.
 #[derive(Clone, Drop)]
@@ -133,7 +141,7 @@ fn host_length(text: &[u8]) -> usize
     if address > 0
         && address <= HOST_NAME_MAX - 2
         && address + 1 < text.len()
-        && text[address + 1] == b']'
+        && text[address + 1] == CLOSING
     {
         return address + 2;
     }
@@ -153,10 +161,10 @@ fn host_front(text: &[u8]) -> usize
 }
 
 fn begins_with_bracket(text: &[u8]) -> bool
-    ensures bracket { result ≡ (slice_index text.now 0 == 91) }
+    ensures bracket { result ≡ (slice_index text.now 0 == OPENING) }
     ensures there { IsTrue result → 0 < length text.now }
 {
-    !text.is_empty() && text[0] == b'['
+    !text.is_empty() && text[0] == OPENING
 }
 
 // how many bytes of a name stand at the front
@@ -180,7 +188,7 @@ fn address_length(text: &[u8]) -> usize
 fn is_address_byte(byte: u8) -> bool
     ensures { result ≡ is_address_byte byte }
 {
-    byte.is_ascii_hexdigit() || byte == b':' || byte == b'.'
+    byte.is_ascii_hexdigit() || byte == COLON || byte == DOT
 }
 
 // the port that follows a host, or the length of the longest front of a port
@@ -192,7 +200,7 @@ fn read_port(text: &[u8]) -> Result<Option<u16>, usize>
     if text.is_empty() {
         return Ok(None);
     }
-    if text[0] != b':' {
+    if text[0] != COLON {
         return Err(0);
     }
     let digits = &text[1..];
@@ -209,11 +217,11 @@ fn read_port(text: &[u8]) -> Result<Option<u16>, usize>
 fn read_port_number(digits: &[u8]) -> Option<u16>
     ensures { result ≡ port_number digits.now }
 {
-    if digits.len() > 5 {
+    if digits.len() > PORT_DIGITS {
         return None;
     }
     match read_digits(digits) {
-        Some(number) if number > 0 && number <= 65535 => Some(number as u16),
+        Some(number) if number > 0 && number <= PORT_MAX as u64 => Some(number as u16),
         _ => None,
     }
 }
@@ -225,11 +233,11 @@ fn port_front(digits: &[u8]) -> usize
 {
     let mut value: u32 = 0;
     'digits: for (count, byte) in digits.iter().enumerate() {
-        if !byte.is_ascii_digit() || count >= 5 {
+        if !byte.is_ascii_digit() || count >= PORT_DIGITS {
             return count;
         }
         value = value * 10 + (*byte - 48) as u32;
-        if value > 65535 || (value == 0 && count >= 4) {
+        if value > PORT_MAX || (value == 0 && count >= PORT_DIGITS - 1) {
             return count;
         }
     }

@@ -7,9 +7,11 @@ ghost use Rattle.std.specs.Option.{option_map};
 ghost use Rattle.cdni_base.specs.Target.{query_text};
 ghost use Rattle.std.specs.Cmp.{decided, partial_equiv_from_equiv};
 ghost use Rattle.std.specs.Hash.{same_Alike};
+ghost use Rattle.cdni_base.specs.declared.byte.TheConstants.{AMPERSAND, EQUALS};
 ghost use Rattle.cdni_base.specs.Key.{pieces_of, is_kept, joined, kept_query, key_of, key_text, same_ignored, same_key, fed_ignored, fed_key};
 ghost use Rattle.cdni_base.specs.KeyEqualityLemmas.{ignored_decides, key_decides};
 
+use crate::byte::{AMPERSAND, EQUALS};
 use crate::host_name::HostName;
 use crate::target::Target;
 use crate::url::url_of;
@@ -279,7 +281,7 @@ fn text_if(any: bool, bytes: Vec<u8>) -> Option<Text>
 
 // adds a piece, behind `&` where there is any before it
 fn add_piece(kept: &mut Vec<u8>, any: bool, piece: &[u8]) -> Result<(), AllocError>
-    ensures { OnOk result (kept.new.items ≡ (if any then kept.old.items ++ 38 ∷ piece.now else kept.old.items ++ piece.now)) }
+    ensures { OnOk result (kept.new.items ≡ (if any then kept.old.items ++ AMPERSAND ∷ piece.now else kept.old.items ++ piece.now)) }
 {
     if any {
         kept.extend_from_slice(b"&")?;
@@ -315,7 +317,7 @@ fn next_piece(text: &[u8]) -> (&[u8], Option<&[u8]>)
     ensures pieces { pieces_of (Some text.now) ≡ result.0.now ∷ pieces_of (option_map (λ bytes. bytes.now) result.1) }
     ensures shorter { IfSome result.1 (λ others. length others.now < length text.now) }
 {
-    match cut_at(b'&', text) {
+    match cut_at(AMPERSAND, text) {
         Some((piece, others)) => (piece, Some(others)),
         None => (text, None),
     }
@@ -330,10 +332,10 @@ fn is_kept(names: &[Text], piece: &[u8]) -> bool
 
 // how many bytes stand before the first `=`
 fn length_before_equals(piece: &[u8]) -> usize
-    ensures length { result ≡ position_or_len (λ byte. byte == 61) piece.now }
+    ensures length { result ≡ position_or_len (λ byte. byte == EQUALS) piece.now }
     ensures within { result ≤ length piece.now }
 {
-    piece.iter().take_while(|byte| **byte != b'=').count()
+    piece.iter().take_while(|byte| **byte != EQUALS).count()
 }
 
 // whether one of these names is `own` in lower case

@@ -6,6 +6,7 @@ ghost use Rattle.cdni_base.specs.declared.endpoint.Endpoint.{Endpoint};
 ghost use Rattle.cdni_base.specs.declared.target.Target.{Target};
 ghost use Rattle.cdni_base.specs.declared.provider.ProviderId.{ProviderId};
 ghost use Rattle.cdni_base.specs.Grammar.{IsEndpoint, IsTarget};
+ghost use Rattle.cdni_base.specs.declared.target.TheConstants.{HTTPS_PORT, TARGET_MAX};
 ghost use Rattle.cdni_base.specs.declared.key.Ignored.TheVariants.{Names};
 ghost use Rattle.cdni_base.specs.Key.{pieces_of, key_of, AreIgnored, IsSameBut};
 ghost use Rattle.cdni_base.specs.Provider.{IsProviderId};
@@ -31,7 +32,7 @@ pub fn a_text_has_one_provider_id()
 /// connection; but beside `https` a port of 443 reads as absent.
 pub fn a_url_is_read_again_as_its_target()
     ensures { (text : List ℕ) (host other : Option (List ℕ)) (secure with_secure https : Bool) (target : Target) →
-        IsTarget text host secure target → (https ≡ true → target.port ≢ 443) → length (url_text https target) ≤ 4096 →
+        IsTarget text host secure target → (https ≡ true → target.port ≢ HTTPS_PORT) → length (url_text https target) ≤ TARGET_MAX →
         IsTarget (url_text https target) other with_secure target }
 {}
 

@@ -3,6 +3,7 @@
 #![tactic(auto)]
 
 mod body;
+mod byte;
 mod byte_class;
 mod date;
 mod endpoint;
@@ -19,12 +20,12 @@ mod url;
 
 pub use body::Body;
 pub use date::{DATE_END, put_date};
-pub use endpoint::{Endpoint, EndpointFault, EndpointList};
+pub use endpoint::{Endpoint, EndpointFault, EndpointList, PORT_DIGITS, PORT_MAX};
 pub use host_name::{HOST_NAME_MAX, HostName};
 pub use key::{Ignored, Key, is_same_key, url_key};
 pub use limits::Limits;
 pub use listing::{Listing, Moment, Text, TextList};
-pub use provider::{ProviderFault, ProviderId};
+pub use provider::{AS_DIGITS, ProviderFault, ProviderId, QUALIFIER_MAX};
 pub use rule::{RULE_TEXT_MAX, Rule};
 pub use scratch::Scratch;
 pub use target::{

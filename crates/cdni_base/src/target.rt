@@ -8,6 +8,7 @@ ghost use Rattle.cdni_base.specs.declared.host_name.TheConstants.{HOST_NAME_MAX}
 ghost use Rattle.cdni_base.specs.Fronts.{StandsInEndpoint};
 ghost use Rattle.cdni_base.specs.Grammar.{AnswersTarget};
 
+use crate::byte::{PERCENT, QUESTION, SLASH};
 use crate::byte_class::is_query_byte;
 use crate::endpoint::{EndpointList, EndpointParts, WrongPart, endpoint_parts};
 use crate::host_name::{HOST_NAME_MAX, HostName};
@@ -229,7 +230,7 @@ fn length_before_path(text: &[u8]) -> usize
     ensures within { result ≤ length text.now }
 {
     text.iter()
-        .take_while(|byte| **byte != b'/' && **byte != b'?')
+        .take_while(|byte| **byte != SLASH && **byte != QUESTION)
         .count()
 }
 
@@ -246,7 +247,7 @@ fn target_at(
     ensures { IfOk result (λ target. target ≡ target_at (endpoint_with authority.now parts) secure text.now) }
 {
     let host = HostName::lowered(alloc, &authority[..parts.host_length])?;
-    let (path, query) = match cut_at(b'?', text) {
+    let (path, query) = match cut_at(QUESTION, text) {
         Some((path, query)) => (path, Some(Text::of(alloc, query)?)),
         None => (text, None),
     };
@@ -302,7 +303,7 @@ fn first_wrong_of_path(text: &[u8]) -> Option<TargetFault>
     if text.is_empty() {
         return Some(TargetFault::NotOrigin { at: 0 });
     }
-    if text[0] == b'/' {
+    if text[0] == SLASH {
         return first_wrong(text, 0);
     }
     if is_taken(text[0], &text[1..]) {
@@ -315,7 +316,7 @@ fn wrong_byte(byte: u8, at: usize) -> TargetFault
     ensures value { result ≡ wrong_byte byte at }
     ensures wrong { IsWrongByte result }
 {
-    if byte == b'%' {
+    if byte == PERCENT {
         TargetFault::BadPercent { at }
     } else {
         TargetFault::NotOrigin { at }
@@ -327,7 +328,7 @@ fn wrong_byte(byte: u8, at: usize) -> TargetFault
 fn is_taken(byte: u8, bytes: &[u8]) -> bool
     ensures { result ≡ is_taken byte bytes.now }
 {
-    is_query_byte(byte) || (byte == b'%' && begins_with_digits(bytes))
+    is_query_byte(byte) || (byte == PERCENT && begins_with_digits(bytes))
 }
 
 // whether two hexadecimal digits stand at the front

@@ -1,6 +1,6 @@
 //! Names of types, of contents and of metadata objects.
 
-ghost use Rattle.std.specs.Prelude.{◌≡◌, ◌≤◌, length, IfOk};
+ghost use Rattle.std.specs.Prelude.{◌≡◌, ◌≤◌, ◌↔◌, length, IfOk, IsTrue};
 ghost use Rattle.std.specs.Str.{str_to_ascii_lowercase};
 ghost use Rattle.cdni_base.specs.TypeName.{named};
 ghost use Rattle.cdni_base.specs.declared.type_name.TheConstants.{TYPE_NAME_MAX};
@@ -35,7 +35,7 @@ impl TypeName {
     pub fn of(alloc: Global, bytes: &[u8]) -> Result<Option<TypeName>, AllocError>
         ensures { IfOk result (λ name. name ≡ named bytes.now) }
     {
-        if bytes.len() > TYPE_NAME_MAX {
+        if !is_short(bytes) {
             return Ok(None);
         }
         Ok(Some(TypeName(Text::of(alloc, bytes)?)))
@@ -48,7 +48,7 @@ impl TypeName {
     pub fn lowered(alloc: Global, bytes: &[u8]) -> Result<Option<TypeName>, AllocError>
         ensures { IfOk result (λ name. name ≡ named (str_to_ascii_lowercase bytes.now)) }
     {
-        if bytes.len() > TYPE_NAME_MAX {
+        if !is_short(bytes) {
             return Ok(None);
         }
         Ok(Some(TypeName(Text::lowered(alloc, bytes)?)))
@@ -61,4 +61,10 @@ impl TypeName {
     {
         self.0.bytes()
     }
+}
+
+fn is_short(bytes: &[u8]) -> bool
+    ensures { IsTrue result ↔ (length bytes.now ≤ TYPE_NAME_MAX) }
+{
+    bytes.len() <= TYPE_NAME_MAX
 }

@@ -4,6 +4,7 @@ ghost use Rattle.std.specs.Prelude.{◌≡◌, ◌++◌, IfOk, OnOk};
 ghost use Rattle.cdni_base.specs.Target.{scheme_text, port_text, query_text, url_of};
 
 use crate::host_name::HostName;
+use crate::target::HTTP_PORT;
 use itoa::Buffer;
 use listing::Text;
 use std::alloc::{AllocError, Global};
@@ -51,7 +52,7 @@ fn scheme_text(secure: bool) -> &'static [u8]
 fn add_port(url: &mut Vec<u8>, port: u16) -> Result<(), AllocError>
     ensures { OnOk result (url.new.items ≡ url.old.items ++ port_text port) }
 {
-    if port == 80 {
+    if port == HTTP_PORT {
         return Ok(());
     }
     let mut digits = Buffer::new();

@@ -9,9 +9,9 @@ use Rattle.std.specs.Str.{str_to_ascii_lowercase}
 use Rattle.std.specs.declared.option.Option.{Option}
 use Rattle.cdni_base.specs.declared.key.Ignored.{Ignored}
 use Rattle.cdni_base.specs.declared.key.Ignored.TheVariants as ignored
-use Rattle.cdni_base.specs.declared.target.Target.{Target}
-use Rattle.cdni_base.specs.Target.{url_of}
-use Rattle.cdni_base.specs.declared.byte.TheConstants.{AMPERSAND, EQUALS}
+use Rattle.targets.specs.declared.target.Target.{Target}
+use Rattle.targets.specs.Target.{url_of}
+use Rattle.targets.specs.declared.byte.TheConstants.{AMPERSAND, EQUALS}
 
 -- a key, without its URL texts, which the others give
 pub record KeyParts : Type 0 where

@@ -9,9 +9,9 @@ use Rattle.std.specs.declared.result.Result.{Result}
 use Rattle.cdni_base.specs.declared.provider.ProviderId.{ProviderId}
 use Rattle.cdni_base.specs.declared.provider.ProviderFault.{ProviderFault}
 use Rattle.cdni_base.specs.declared.provider.ProviderFault.TheVariants.{Bad, Memory}
-use Rattle.cdni_base.specs.Endpoint.{is_name_byte}
+use Rattle.targets.specs.Endpoint.{is_name_byte}
 use Rattle.listing.specs.Fronts.{IsLongestFront}
-use Rattle.cdni_base.specs.declared.byte.TheConstants.{COLON}
+use Rattle.targets.specs.declared.byte.TheConstants.{COLON}
 use Rattle.cdni_base.specs.declared.provider.TheConstants.{AS_DIGITS, QUALIFIER_MAX}
 
 -- the text is `AS`, 1 to 10 digits, `:`, and 1 to 64 letters, digits, `-`, `.` and `_`

@@ -4,21 +4,19 @@ ghost use Rattle.std.specs.Prelude.{◌≡◌, ◌==◌, ◌↔◌, ◌≤◌, �
 ghost use Rattle.std.specs.List.{position_or_len, list_any};
 ghost use Rattle.std.specs.Str.{str_to_ascii_lowercase};
 ghost use Rattle.std.specs.Option.{option_map};
-ghost use Rattle.cdni_base.specs.Target.{query_text};
+ghost use Rattle.targets.specs.Target.{query_text};
 ghost use Rattle.std.specs.Cmp.{decided, partial_equiv_from_equiv};
 ghost use Rattle.std.specs.Hash.{same_Alike};
-ghost use Rattle.cdni_base.specs.declared.byte.TheConstants.{AMPERSAND, EQUALS};
+ghost use Rattle.targets.specs.declared.byte.TheConstants.{AMPERSAND, EQUALS};
 ghost use Rattle.cdni_base.specs.Key.{pieces_of, is_kept, joined, kept_query, key_of, key_text, same_ignored, same_key, fed_ignored, fed_key};
 ghost use Rattle.cdni_base.specs.KeyEqualityLemmas.{ignored_decides, key_decides};
 
-use crate::byte::{AMPERSAND, EQUALS};
-use crate::host_name::HostName;
-use crate::target::Target;
-use crate::url::url_of;
 use listing::{Text, TextList, cut_at};
 use std::alloc::{AllocError, Global};
 use std::hash::{Hash, Hasher};
 use std::marker::Model;
+use targets::byte::{AMPERSAND, EQUALS};
+use targets::{HostName, Target, url_of};
 
 /// Which part of a query plays no part in a key (RFC 8006, section 4.2.6, `ignore-query-string`).
 #[derive(Clone, Drop)]
@@ -46,7 +44,7 @@ pub struct Key {
 impl Model for Key {
     ghost use Rattle.std.specs.Prelude.{◌≡◌, true, false};
     ghost use Rattle.cdni_base.specs.Key.{KeyParts};
-    ghost use Rattle.cdni_base.specs.Target.{url_of};
+    ghost use Rattle.targets.specs.Target.{url_of};
 
     ghost Value = { KeyParts };
 

@@ -3,13 +3,13 @@
 ghost use Rattle.std.specs.Prelude.{◌≡◌, ◌+◌, ◌≤◌, ◌==◌, length, slice_index, IsTrue};
 ghost use Rattle.std.specs.List.{prefix_len};
 ghost use Rattle.std.specs.Char.{is_ascii_digit};
-ghost use Rattle.cdni_base.specs.declared.byte.TheConstants.{COLON};
+ghost use Rattle.targets.specs.declared.byte.TheConstants.{COLON};
 ghost use Rattle.cdni_base.specs.Provider.{as_length, wrong_qualifier, wrong_number, wrong_place, ReadsProvider, AnswersProvider, ProviderStands};
 
-use crate::byte::COLON;
-use crate::endpoint::name_length;
 use listing::Text;
 use std::alloc::{AllocError, Global};
+use targets::byte::COLON;
+use targets::name_length;
 
 /// The most digits of the number of a provider id.
 pub const AS_DIGITS: usize = 10;

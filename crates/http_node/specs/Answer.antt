@@ -3,7 +3,7 @@ use Rattle.std.specs.Prelude.{ℕ, List, [], ◌∷◌, ◌++◌, codes, decimal
 use Rattle.std.specs.List.{flat_map}
 use Rattle.std.specs.declared.option.Option.{Option}
 use Rattle.cdni_base.specs.Rule.{rule_status, rule_text}
-use Rattle.cdni_base.specs.declared.endpoint.Endpoint.{Endpoint}
+use Rattle.targets.specs.declared.endpoint.Endpoint.{Endpoint}
 use Rattle.json_read.specs.declared.fault.FieldCause.{FieldCause}
 use Rattle.json_read.specs.declared.fault.FieldCause.TheVariants.{Missing, WrongKind, OutOfRange}
 use Rattle.metadata_objects.specs.declared.fault.MetaFault.{MetaFault}

@@ -2,7 +2,7 @@
 use Rattle.std.specs.Prelude.{ℕ}
 use Rattle.std.specs.Option.{option_map}
 use Rattle.std.specs.declared.option.Option.{Option}
-use Rattle.cdni_base.specs.declared.target.Asked.{Asked}
+use Rattle.cdni_base.specs.declared.asked.Asked.{Asked}
 use Rattle.location_acl.specs.declared.footprint.Place.{Place}
 use Rattle.metadata_objects.specs.Tree.{Index, index_view}
 use Rattle.metadata_objects.specs.declared.fault.MetaFault.{MetaFault}

@@ -7,11 +7,11 @@ use Rattle.std.specs.Result.{result_ok}
 use Rattle.std.specs.declared.option.Option.{Option}
 use Rattle.listing.specs.Number.{number_of}
 use Rattle.listing.specs.Word.{◌>>=◌, parts_at}
-use Rattle.cdni_base.specs.Target.{target_of}
-use Rattle.cdni_base.specs.declared.target.Asked.{Asked}
-use Rattle.cdni_base.specs.declared.target.Protocol.{Protocol}
-use Rattle.cdni_base.specs.declared.target.Protocol.TheVariants.{Http, Https}
-use Rattle.cdni_base.specs.declared.target.Target.{Target}
+use Rattle.targets.specs.Target.{target_of}
+use Rattle.cdni_base.specs.declared.asked.Asked.{Asked}
+use Rattle.targets.specs.declared.target.Protocol.{Protocol}
+use Rattle.targets.specs.declared.target.Protocol.TheVariants.{Http, Https}
+use Rattle.targets.specs.declared.target.Target.{Target}
 use Rattle.location_acl.specs.Footprint.{asn_of, country_of}
 use Rattle.location_acl.specs.Reading.{ip_of}
 use Rattle.location_acl.specs.declared.footprint.Place.{Place}

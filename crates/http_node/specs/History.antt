@@ -4,7 +4,7 @@ use Rattle.std.specs.List.{find, fold}
 use Rattle.std.specs.Option.{option_map, option_and_then}
 use Rattle.std.specs.declared.option.Option.{Option}
 use Rattle.cdni_base.specs.Limits.{Bounds}
-use Rattle.cdni_base.specs.declared.target.Asked.{Asked}
+use Rattle.cdni_base.specs.declared.asked.Asked.{Asked}
 use Rattle.location_acl.specs.declared.footprint.Place.{Place}
 use Rattle.metadata_objects.specs.Tree.{Index}
 use Rattle.http_node.specs.Admission.{judged}

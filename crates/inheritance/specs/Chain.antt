@@ -3,7 +3,7 @@ use Rattle.std.specs.Prelude.{ℕ, Bool, true, bytes_eq, List, [], ◌∷◌, No
 use Rattle.std.specs.List.{find}
 use Rattle.std.specs.Option.{option_map}
 use Rattle.std.specs.declared.option.Option.{Option}
-use Rattle.cdni_base.specs.declared.target.Target.{Target}
+use Rattle.targets.specs.declared.target.Target.{Target}
 use Rattle.metadata_objects.specs.Tree.{Tree, tree, Branches, no_branches, branch, Site, Index}
 use Rattle.metadata_objects.specs.declared.generic.Generic.{Generic}
 use Rattle.pattern_match.specs.Matching.{is_match}

@@ -3,7 +3,7 @@ use Rattle.std.specs.Prelude.{ℕ, List, [], codes, length, Ok, Err, nat_lt, if�
 use Rattle.std.specs.Option.{option_map_or}
 use Rattle.std.specs.Result.{result_ok}
 use Rattle.serde_json.specs.Data.{Data, Items}
-use Rattle.cdni_base.specs.Endpoint.{endpoint_of}
+use Rattle.targets.specs.Endpoint.{endpoint_of}
 use Rattle.json_read.specs.Field.{◌>>=◌, needed, items_of}
 use Rattle.json_read.specs.Path.{child_of}
 use Rattle.json_read.specs.Text.{json_of}

@@ -6,9 +6,9 @@ use Rattle.std.specs.Result.{result_ok}
 use Rattle.std.specs.declared.option.Option.{Option}
 use Rattle.serde_json.specs.Data.{Data}
 use Rattle.serde_json.specs.Find.{get, as_str, as_array, as_object}
-use Rattle.cdni_base.specs.Endpoint.{endpoint_of}
-use Rattle.cdni_base.specs.declared.endpoint.Endpoint.{Endpoint}
-use Rattle.cdni_base.specs.declared.target.SourceItem.{SourceItem}
+use Rattle.targets.specs.Endpoint.{endpoint_of}
+use Rattle.targets.specs.declared.endpoint.Endpoint.{Endpoint}
+use Rattle.cdni_base.specs.declared.source_item.SourceItem.{SourceItem}
 use Rattle.metadata_objects.specs.Items.{each_of}
 
 -- an endpoint (RFC 8006, section 4.3.3)

@@ -1,6 +1,6 @@
 -- What a metadata tree is seen as: plain data, whatever memory its lists have taken.
 use Rattle.std.specs.Prelude.{List, [], ◌∷◌, map}
-use Rattle.cdni_base.specs.declared.endpoint.Endpoint.{Endpoint}
+use Rattle.targets.specs.declared.endpoint.Endpoint.{Endpoint}
 use Rattle.pattern_match.specs.Matching.{Compiled}
 use Rattle.metadata_objects.specs.declared.generic.Generic.{Generic}
 use Rattle.metadata_objects.specs.declared.host.HostIndex.{HostIndex}

@@ -3,7 +3,7 @@ use Rattle.std.proofs.Common.{◌≡◌, ◌↔◌, ℕ, List, refl, ap, None, S
 use Rattle.std.specs.Option.{option_or, option_map_or}
 use Rattle.std.specs.declared.option.Option.{Option}
 use Rattle.cdni_base.specs.declared.rule.Rule.{Rule}
-use Rattle.cdni_base.specs.declared.target.Protocol.{Protocol}
+use Rattle.targets.specs.declared.target.Protocol.{Protocol}
 use Rattle.location_acl.specs.declared.footprint.Place.{Place}
 use Rattle.metadata_objects.specs.declared.generic.Generic.{Generic}
 use Rattle.verdict.specs.Verdict.{unenforceable_rule, location_rule, time_rule, protocol_rule, source_rule, list_rule, first_rule, verdict_of, NoneForbids}

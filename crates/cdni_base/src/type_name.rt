@@ -1,6 +1,6 @@
 //! Names of types, of contents and of metadata objects.
 
-ghost use Rattle.std.specs.Prelude.{◌≡◌, ◌≤◌, ◌↔◌, length, IfOk, IsTrue};
+ghost use Rattle.std.specs.Prelude.{◌≡◌, ◌≤◌, ◌↔◌, length, IfOk, IsTrue, bytes_eq};
 ghost use Rattle.std.specs.Str.{str_to_ascii_lowercase};
 ghost use Rattle.cdni_base.specs.TypeName.{named};
 ghost use Rattle.cdni_base.specs.declared.type_name.TheConstants.{TYPE_NAME_MAX};
@@ -60,6 +60,14 @@ impl TypeName {
         ensures short { length self.now ≤ TYPE_NAME_MAX }
     {
         self.0.bytes()
+    }
+
+    /// Whether these are the name's bytes.
+    pub fn is(&self, bytes: &[u8]) -> bool
+        ensures same { IsTrue result ↔ (self.now ≡ bytes.now) }
+        ensures value { result ≡ bytes_eq self.now bytes.now }
+    {
+        self.0.is(bytes)
     }
 }
 

@@ -6,7 +6,7 @@ use Rattle.cdni_base.specs.declared.asked.Asked.{Asked}
 use Rattle.inheritance.specs.Chain.{chain}
 use Rattle.inheritance.specs.Effective.{effective}
 use Rattle.location_acl.specs.declared.footprint.Place.{Place}
-use Rattle.metadata_objects.specs.Tree.{Index}
+use Rattle.metadata_objects.specs.LevelData.{Index}
 use Rattle.metadata_objects.specs.declared.generic.Generic.{Generic}
 use Rattle.verdict.specs.Plan.{plan_of}
 use Rattle.verdict.specs.Verdict.{verdict_of}

@@ -4,7 +4,7 @@ use Rattle.std.specs.Option.{option_map}
 use Rattle.std.specs.declared.option.Option.{Option}
 use Rattle.cdni_base.specs.declared.asked.Asked.{Asked}
 use Rattle.location_acl.specs.declared.footprint.Place.{Place}
-use Rattle.metadata_objects.specs.Tree.{Index, index_view}
+use Rattle.metadata_objects.specs.LevelData.{Index, index_view}
 use Rattle.metadata_objects.specs.declared.fault.MetaFault.{MetaFault}
 use Rattle.http_node.specs.declared.call.Call.{Call}
 use Rattle.http_node.specs.declared.call.Call.TheVariants as call

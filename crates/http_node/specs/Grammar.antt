@@ -17,7 +17,7 @@ use Rattle.location_acl.specs.Reading.{ip_of}
 use Rattle.location_acl.specs.declared.footprint.Place.{Place}
 use Rattle.metadata_objects.specs.Host.{host_index_of_text}
 use Rattle.metadata_objects.specs.Reading.{Reading}
-use Rattle.metadata_objects.specs.Tree.{Index}
+use Rattle.metadata_objects.specs.LevelData.{Index}
 use Rattle.http_node.specs.Event.{Event, RefreshBegin, RefreshEnd, Admit, Noted}
 use Rattle.http_node.specs.History.{Entry}
 

@@ -6,7 +6,7 @@ use Rattle.std.specs.declared.option.Option.{Option}
 use Rattle.cdni_base.specs.Limits.{Bounds}
 use Rattle.cdni_base.specs.declared.asked.Asked.{Asked}
 use Rattle.location_acl.specs.declared.footprint.Place.{Place}
-use Rattle.metadata_objects.specs.Tree.{Index}
+use Rattle.metadata_objects.specs.LevelData.{Index}
 use Rattle.http_node.specs.Admission.{judged}
 use Rattle.http_node.specs.Event.{Event, RefreshBegin, RefreshEnd, Admit}
 use Rattle.http_node.specs.declared.call.Reply.{Reply}

@@ -2,7 +2,7 @@
 
 ghost use Rattle.std.specs.Prelude.{◌≡◌, ◌+◌, ◌<◌, ◌≤◌, length, IfOk, OnOk, OnErr, OnSome, MatchOption, None, slice_get, option_map};
 ghost use Rattle.std.specs.List.{find, remove};
-ghost use Rattle.metadata_objects.specs.Tree.{index_view};
+ghost use Rattle.metadata_objects.specs.LevelData.{index_view};
 ghost use Rattle.http_node.specs.Event.{event_of};
 ghost use Rattle.http_node.specs.History.{is_open, without};
 
@@ -37,17 +37,17 @@ pub struct Core {
 
 impl Model for Core {
     ghost use Rattle.std.specs.Prelude.{◌+◌, ◌≤◌, length, option_map};
-    ghost use Rattle.metadata_objects.specs.Tree.{index_view};
+    ghost use Rattle.metadata_objects.specs.LevelData.{index_view};
     ghost use Rattle.http_node.specs.History.{World};
 
     ghost Value = { World };
 
     ghost use Rattle.std.specs.Coded.{codes, coded_list, coded×, coded_ℕ};
-    ghost use Rattle.metadata_objects.specs.Coding.{tree_code};
+    ghost use Rattle.metadata_objects.specs.Coding.{level_code};
     ghost use Rattle.metadata_objects.specs.contracts.generic.Generic as generic;
     ghost use Rattle.pattern_match.specs.contracts.pattern.Pattern as pattern;
 
-    ghost coded = { Prim.hlevel (codes, tree_code (coded_list (coded× pattern.the_row.coded (coded× (coded_list generic.the_row.coded) coded_ℕ)))) };
+    ghost coded = { Prim.hlevel (codes, level_code (coded_list (coded× pattern.the_row.coded (coded× (coded_list generic.the_row.coded) coded_ℕ)))) };
 
     ghost view = { λ c. record {
       limits = c.limits;

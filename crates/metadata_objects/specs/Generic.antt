@@ -1,8 +1,9 @@
 -- GenericMetadata (RFC 8006, section 4.1.7).
-use Rattle.std.specs.Prelude.{ℕ, Bool, true, false, List, codes, bytes_eq, length, None, Some, Ok, nat_lt, nat_le, ◌&&◌, if◌then◌else◌}
+use Rattle.std.specs.Prelude.{ℕ, Bool, true, false, List, codes, bytes_eq, length, None, Some, Ok, nat_lt, if◌then◌else◌}
 use Rattle.std.specs.Str.{str_to_ascii_lowercase}
 use Rattle.std.specs.declared.option.Option.{Option}
 use Rattle.serde_json.specs.Data.{Data, Items}
+use Rattle.cdni_base.specs.TypeName.{named}
 use Rattle.json_read.specs.Field.{◌>>=◌, needed}
 use Rattle.json_read.specs.Path.{child_of}
 use Rattle.metadata_objects.specs.Reading.{Reading, counted, no_link, needed_text, in_range, field, flag_or, all_of}
@@ -15,7 +16,7 @@ use Rattle.metadata_objects.specs.declared.generic.Held.TheVariants as held
 
 -- a type name of 1 to 127 bytes, in lower case
 unfoldable pub kind_of : List ℕ → Option (List ℕ)
-kind_of text = if nat_lt 0 (length text) && nat_le (length text) 127 then Some (str_to_ascii_lowercase text) else None
+kind_of text = if nat_lt 0 (length text) then named (str_to_ascii_lowercase text) else None
 
 -- what was read of a value, or that it is not understood
 abbrev pub held_as : {A : Type 0} → (A → Held) → Option A → Held

@@ -9,7 +9,7 @@ use Rattle.json_read.specs.Path.{child_of}
 use Rattle.json_read.specs.Text.{json_of}
 use Rattle.metadata_objects.specs.Reading.{Reading, counted, no_link, needed_text, in_range, field, all_of}
 use Rattle.metadata_objects.specs.Level.{needed_level, path_match_of}
-use Rattle.metadata_objects.specs.Tree.{Index, Site}
+use Rattle.metadata_objects.specs.LevelData.{Index, Site}
 use Rattle.metadata_objects.specs.declared.fault.MetaFault.TheVariants as meta_fault
 
 -- PathMatch objects nest at most 16 levels deep
@@ -23,7 +23,7 @@ host_match_of path n value = do
   text ← needed_text path (codes "host") value
   host ← in_range (child_of path (codes "host")) (result_ok (endpoint_of text))
   level ← needed_level (path_match_of nesting) path (codes "host-metadata") m value
-  Ok (record { host = host; tree = level.0 }, level.1)
+  Ok (record { host = host; level = level.0 }, level.1)
 
 abbrev pub hosts_of : List ℕ → ℕ → Items → Reading (Index × ℕ)
 hosts_of path n items = all_of host_match_of path 0 n items

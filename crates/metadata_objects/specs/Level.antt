@@ -7,13 +7,13 @@ use Rattle.json_read.specs.Path.{child_of}
 use Rattle.pattern_match.specs.Matching.{Compiled, compiled}
 use Rattle.metadata_objects.specs.Generic.{generics_of}
 use Rattle.metadata_objects.specs.Reading.{Reading, counted, no_link, needed_text, in_range, field, flag_or, all_of}
-use Rattle.metadata_objects.specs.Tree.{Tree, tree, branches_of}
+use Rattle.metadata_objects.specs.LevelData.{LevelData, level_data, branches_of}
 use Rattle.metadata_objects.specs.declared.fault.MetaFault.TheVariants as meta_fault
 use Rattle.metadata_objects.specs.declared.generic.Generic.{Generic}
 
 -- how a PathMatch at a place reads, after n objects
 abbrev pub PathReading : Type 0
-PathReading = List ℕ → ℕ → Data → Reading ((Compiled × Tree) × ℕ)
+PathReading = List ℕ → ℕ → Data → Reading ((Compiled × LevelData) × ℕ)
 
 -- ---- `metadata` and `paths` of a level: lists, and empty where they are absent
 
@@ -24,23 +24,23 @@ metadata_found path n (Some list) = field (items_of path list) >>= λ items. gen
 unfoldable pub metadata_of : List ℕ → ℕ → Data → Reading (List Generic × ℕ)
 metadata_of path n value = field (looked_up path (codes "metadata") value) >>= λ found. metadata_found (child_of path (codes "metadata")) n found
 
-abbrev pub paths_found : PathReading → List ℕ → ℕ → Option Data → Reading (List (Compiled × Tree) × ℕ)
+abbrev pub paths_found : PathReading → List ℕ → ℕ → Option Data → Reading (List (Compiled × LevelData) × ℕ)
 paths_found read path n None = Ok ([], n)
 paths_found read path n (Some list) = field (items_of path list) >>= λ items. all_of read path 0 n items
 
-unfoldable pub paths_of : PathReading → List ℕ → ℕ → Data → Reading (List (Compiled × Tree) × ℕ)
+unfoldable pub paths_of : PathReading → List ℕ → ℕ → Data → Reading (List (Compiled × LevelData) × ℕ)
 paths_of read path n value = field (looked_up path (codes "paths") value) >>= λ found. paths_found read (child_of path (codes "paths")) n found
 
 -- a HostMetadata or PathMetadata whose PathMatch objects read so, and how many objects were counted with its own
-unfoldable pub level_with : PathReading → List ℕ → ℕ → Data → Reading (Tree × ℕ)
+unfoldable pub level_with : PathReading → List ℕ → ℕ → Data → Reading (LevelData × ℕ)
 level_with read path n value = do
   plain ← no_link path value
   metadata ← metadata_of path n value
   paths ← paths_of read path metadata.1 value
-  Ok (tree metadata.0 (branches_of paths.0), paths.1)
+  Ok (level_data metadata.0 (branches_of paths.0), paths.1)
 
 -- the level that must stand at a property
-unfoldable pub needed_level : PathReading → List ℕ → List ℕ → ℕ → Data → Reading (Tree × ℕ)
+unfoldable pub needed_level : PathReading → List ℕ → List ℕ → ℕ → Data → Reading (LevelData × ℕ)
 needed_level read path name n value = field (needed path name value) >>= λ member. level_with read (child_of path name) n member
 
 -- ---- PatternMatch and PathMatch

@@ -4,7 +4,7 @@ ghost use Rattle.std.specs.Prelude.{◌≡◌, map};
 ghost use Rattle.serde_json.specs.View.{items_of};
 ghost use Rattle.metadata_objects.specs.Reading.{Gives};
 ghost use Rattle.metadata_objects.specs.Host.{host_match_of, hosts_of};
-ghost use Rattle.metadata_objects.specs.Tree.{host_view, hosts_view};
+ghost use Rattle.metadata_objects.specs.LevelData.{host_view, hosts_view};
 
 use crate::fault::MetaFault;
 use crate::level::{Level, level_at_member};
@@ -34,7 +34,7 @@ pub type HostMatchList = Listing<HostMatch>;
 
 impl HostIndex {
     ghost use Rattle.metadata_objects.specs.Host.{host_index_of, host_index_of_text};
-    ghost use Rattle.metadata_objects.specs.Tree.{index_view};
+    ghost use Rattle.metadata_objects.specs.LevelData.{index_view};
 
     /// Reads the HostIndex of a JSON text of at most 8,388,608 bytes.
     ///

@@ -4,7 +4,7 @@ ghost use Rattle.std.specs.Prelude.{◌≡◌, map};
 ghost use Rattle.serde_json.specs.View.{items_of};
 ghost use Rattle.json_read.specs.Path.{IsName};
 ghost use Rattle.metadata_objects.specs.Reading.{Gives, all_of};
-ghost use Rattle.metadata_objects.specs.Tree.{level_view, path_view, paths_view};
+ghost use Rattle.metadata_objects.specs.LevelData.{level_view, path_view, paths_view};
 ghost use Rattle.metadata_objects.specs.Level.{metadata_of, paths_of, level_with, needed_level, pattern_of, needed_pattern, path_match_with, path_match_of};
 
 use crate::fault::MetaFault;
@@ -15,7 +15,7 @@ use json_read::{JsonPath, JsonValue, list_at, maybe, need};
 use pattern_match::{MAX_PATTERN_LEN, Pattern, PatternFault};
 use std::alloc::Global;
 
-/// The metadata of one level (RFC 8006, sections 4.1.3 and 4.1.6), and the levels below it. It is seen as a `Tree`.
+/// The metadata of one level (RFC 8006, sections 4.1.3 and 4.1.6), and the levels below it. It is seen as a `LevelData`.
 #[derive(Drop)]
 #[cycle(level)]
 pub struct Level {

@@ -11,8 +11,10 @@ mod lists;
 mod location;
 mod object;
 mod source;
+mod tree;
 
 pub use fault::MetaFault;
 pub use generic::{Generic, GenericList, Held};
 pub use host::{HostIndex, HostMatch, HostMatchList};
 pub use level::{Level, PathMatch, PathMatchList};
+pub use tree::{KeyList, Tree};

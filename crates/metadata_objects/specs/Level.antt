@@ -1,5 +1,5 @@
 -- HostMetadata, PathMetadata, PathMatch and PatternMatch (RFC 8006, sections 4.1.3 to 4.1.6).
-use Rattle.std.specs.Prelude.{ℕ, zero, suc, false, List, [], codes, length, None, Some, Ok, Err, nat_le, if◌then◌else◌}
+use Rattle.std.specs.Prelude.{ℕ, ◌+◌, zero, suc, false, List, [], codes, length, None, Some, Ok, Err, nat_le, if◌then◌else◌, ◌∷◌}
 use Rattle.std.specs.declared.option.Option.{Option}
 use Rattle.serde_json.specs.Data.{Data}
 use Rattle.json_read.specs.Field.{◌>>=◌, looked_up, needed, items_of}
@@ -8,6 +8,8 @@ use Rattle.pattern_match.specs.Matching.{Compiled, compiled}
 use Rattle.metadata_objects.specs.Generic.{generics_of}
 use Rattle.metadata_objects.specs.Reading.{Reading, counted, no_link, needed_text, in_range, field, flag_or, all_of}
 use Rattle.metadata_objects.specs.LevelData.{LevelData, level_data, branches_of}
+use Rattle.metadata_objects.specs.declared.host.TheConstants.{NESTING_MAX}
+use Rattle.pattern_match.specs.declared.pattern.TheConstants.{MAX_PATTERN_LEN}
 use Rattle.metadata_objects.specs.declared.fault.MetaFault.TheVariants as meta_fault
 use Rattle.metadata_objects.specs.declared.generic.Generic.{Generic}
 
@@ -47,7 +49,7 @@ needed_level read path name n value = field (needed path name value) >>= λ memb
 
 -- a pattern of at most 1,024 bytes
 abbrev pub short_pattern : List ℕ → Option (List ℕ)
-short_pattern text = if nat_le (length text) 1024 then Some text else None
+short_pattern text = if nat_le (length text) MAX_PATTERN_LEN then Some text else None
 
 unfoldable pub pattern_of : List ℕ → Data → Reading Compiled
 pattern_of path value = do
@@ -71,5 +73,17 @@ path_match_with read path n value = do
 
 -- a PathMatch at which so many more may nest, itself counted; one too many is too deep, before anything else of it
 unfoldable pub path_match_of : ℕ → PathReading
-path_match_of zero path n value = counted n >>= λ m. Err (meta_fault.TooDeep 17)
+path_match_of zero path n value = counted n >>= λ m. Err (meta_fault.TooDeep (NESTING_MAX + 1))
 path_match_of (suc left) path n value = path_match_with (path_match_of left) path n value
+
+-- the properties of a HostMetadata and a PathMetadata that count
+abbrev pub level_names : List (List ℕ)
+level_names = codes "href" ∷ codes "metadata" ∷ codes "paths" ∷ []
+
+-- the properties of a PathMatch that count
+abbrev pub path_match_names : List (List ℕ)
+path_match_names = codes "href" ∷ codes "path-pattern" ∷ codes "path-metadata" ∷ []
+
+-- the properties of a PatternMatch that count
+abbrev pub pattern_names : List (List ℕ)
+pattern_names = codes "pattern" ∷ codes "case-sensitive" ∷ []

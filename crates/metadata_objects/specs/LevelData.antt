@@ -1,5 +1,6 @@
 -- What a metadata tree is seen as: plain data, whatever memory its lists have taken.
-use Rattle.std.specs.Prelude.{List, [], ◌∷◌, map}
+use Rattle.std.specs.Prelude.{ℕ, ◌+◌, max, List, [], ◌∷◌, length, map}
+use Rattle.std.specs.List.{All}
 use Rattle.targets.specs.declared.endpoint.Endpoint.{Endpoint}
 use Rattle.pattern_match.specs.Matching.{Compiled}
 use Rattle.metadata_objects.specs.declared.generic.Generic.{Generic}
@@ -36,6 +37,40 @@ branches_in (level_data objects below) = below
 abbrev pub branches_of : List (Compiled × LevelData) → Branches
 branches_of [] = no_branches
 branches_of (path ∷ paths) = branch path.0 path.1 (branches_of paths)
+
+-- ---- how large a tree is
+
+-- how many objects a level has with those below it, where each PathMatch is one too
+abbrev mutual
+  pub count_at : LevelData → ℕ
+  count_at (level_data objects below) = length objects + count_below below
+
+  pub count_below : Branches → ℕ
+  count_below no_branches = 0
+  count_below (branch pattern inner others) = 1 + count_at inner + count_below others
+
+-- how many PathMatch objects nest in each other at most
+abbrev mutual
+  pub depth_at : LevelData → ℕ
+  depth_at (level_data objects below) = depth_below below
+
+  pub depth_below : Branches → ℕ
+  depth_below no_branches = 0
+  depth_below (branch pattern inner others) = max (1 + depth_at inner) (depth_below others)
+
+-- each object of a level and of those below it is so
+abbrev mutual
+  pub EachAt : (Generic → Type 0) → LevelData → Type 0
+  EachAt IsSo (level_data objects below) = All IsSo objects × EachBelow IsSo below
+
+  pub EachBelow : (Generic → Type 0) → Branches → Type 0
+  EachBelow IsSo no_branches = Unit {0}
+  EachBelow IsSo (branch pattern inner others) = EachAt IsSo inner × EachBelow IsSo others
+
+-- how many objects an index has, each HostMatch one of them
+abbrev pub count_of : Index → ℕ
+count_of [] = 0
+count_of (site ∷ sites) = 1 + count_at site.level + count_of sites
 
 -- ---- how the code's objects are seen
 

@@ -13,6 +13,7 @@ use Rattle.time_window.specs.declared.acl.TimeRule.{TimeRule}
 use Rattle.time_window.specs.declared.acl.TimeWindow.{TimeWindow}
 use Rattle.protocol_acl.specs.declared.acl.ProtocolRule.{ProtocolRule}
 use Rattle.metadata_objects.specs.Items.{each_of, name_in}
+use Rattle.metadata_objects.specs.declared.lists.TheConstants.{SECONDS_MAX}
 
 -- ---- what the three lists have in common
 
@@ -77,7 +78,7 @@ locations_in value = rules_in location_rule_in (codes "locations") value >>= few
 
 -- a whole number of seconds, at most 2 ^ 53
 unfoldable pub seconds_in : List ℕ → Data → Option ℕ
-seconds_in name value = get name value >>= λ member. as_number member >>= λ number. as_u64 number >>= λ n. if nat_le n (2 ^ 53) then Some n else None
+seconds_in name value = get name value >>= λ member. as_number member >>= λ number. as_u64 number >>= λ n. if nat_le n SECONDS_MAX then Some n else None
 
 unfoldable pub window_in : Data → Option TimeWindow
 window_in value = seconds_in (codes "start") value >>= λ start. seconds_in (codes "end") value >>= λ last. Some (record { start = start; end = last })

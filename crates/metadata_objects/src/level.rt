@@ -9,6 +9,7 @@ ghost use Rattle.metadata_objects.specs.Level.{metadata_of, paths_of, level_with
 
 use crate::fault::MetaFault;
 use crate::generic::{GenericList, generics_at};
+use crate::host::NESTING_MAX;
 use crate::object::{flag, one_more, out_of_range, refuse_link, text};
 use cdni_base::Listing;
 use json_read::{JsonPath, JsonValue, list_at, maybe, need};
@@ -146,7 +147,9 @@ fn path_match_at<V: JsonValue>(
 {
     if left == 0 {
         one_more(count)?;
-        return Err(MetaFault::TooDeep { n: 17 });
+        return Err(MetaFault::TooDeep {
+            n: NESTING_MAX as usize + 1,
+        });
     }
     path_match_within(alloc, value, path, left - 1, count)
 }

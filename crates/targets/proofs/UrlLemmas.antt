@@ -22,7 +22,7 @@ use Rattle.targets.proofs.RowLemmas.{follows, hex_small}
 use Rattle.targets.proofs.TargetLemmas.{all_imply}
 
 -- a host in lower case is a host
-lower_twice : (text : List ℕ) → str_to_ascii_lowercase (str_to_ascii_lowercase text) ≡ str_to_ascii_lowercase text
+pub lower_twice : (text : List ℕ) → str_to_ascii_lowercase (str_to_ascii_lowercase text) ≡ str_to_ascii_lowercase text
 lower_twice [] = refl
 lower_twice (byte ∷ bytes) = ap (λ (b : ℕ). b ∷ str_to_ascii_lowercase (str_to_ascii_lowercase bytes)) (lowercase-lowercase byte) ∙ ap (λ (xs : List ℕ). to_ascii_lowercase byte ∷ xs) (lower_twice bytes)
 

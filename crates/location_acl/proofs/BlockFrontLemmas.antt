@@ -9,22 +9,22 @@ use Rattle.std.proofs.lemmas.List.{take_more, length-take-le}
 use Rattle.std.proofs.Math.Seq.{take-length}
 use Rattle.std.proofs.lemmas.Int.Digits.{digits_value_push}
 use Rattle.location_acl.specs.declared.ip.Ip.{Ip}
-use Rattle.location_acl.specs.Address.{IsAddress}
+use Rattle.location_acl.specs.Ip.{IsAddress}
 use Rattle.location_acl.specs.Block.{base_of, most_of, length_with, IsLength, IsSomeBlock, IsFitting}
-use Rattle.location_acl.specs.Place.{Begins, IsPlace}
-use Rattle.location_acl.proofs.PlaceLemmas.{take_longer, place_same}
+use Rattle.listing.specs.Fronts.{IsLongestFront}
+use Rattle.location_acl.proofs.FrontLemmas.{Begins, take_longer, place_same}
 use Rattle.location_acl.proofs.PartLemmas.{is_free, one_cut}
 use Rattle.location_acl.proofs.BlockLemmas.{base_from, base_is, address_is_free, digit_value_is}
 
 -- a place behind which nothing is accepted
-pub stops_if : (A : List ℕ → Type 0) (text : List ℕ) (at : ℕ) → at ≤ length text → Begins A (take at text) → ((more : List ℕ) → at < length text → A (take at text ++ get_or text at 0 ∷ more) → ⊥) → IsPlace A text at
+pub stops_if : (A : List ℕ → Type 0) (text : List ℕ) (at : ℕ) → at ≤ length text → Begins A (take at text) → ((more : List ℕ) → at < length text → A (take at text ++ get_or text at 0 ∷ more) → ⊥) → IsLongestFront A text at
 stops_if A text at within begins bad = record {
   within = within;
   begins = begins;
-  longest = λ n fits begun. ⊎_elim (λ longer.
+  longest = λ n rest fits accepted. ⊎_elim (λ longer.
       let more = take_longer text at n longer fits in
-      let same = ap (λ (xs : List ℕ). xs ++ begun.0) more.1 ∙ append_assoc (take at text) (get_or text at 0 ∷ more.0) begun.0 in
-      absurd (bad (more.0 ++ begun.0) (omega arith) (subst A same begun.1)))
+      let same = ap (λ (xs : List ℕ). xs ++ rest) more.1 ∙ append_assoc (take at text) (get_or text at 0 ∷ more.0) rest in
+      absurd (bad (more.0 ++ rest) (omega arith) (subst A same accepted)))
       (λ less. less) (cases_lt at n);
 }
 
@@ -109,9 +109,9 @@ free_take (suc n) (x ∷ xs) free =
     and_from (not (eqb x 47)) _ parts.0 (free_take n xs parts.1)
 
 -- a text without `/`
-pub place_without : (six : Bool) (text : List ℕ) (at : ℕ) → is_free 47 text ≡ true → IsPlace (λ other. IsSome (base_of six other)) text at → IsPlace (IsSomeBlock six) text at
+pub place_without : (six : Bool) (text : List ℕ) (at : ℕ) → is_free 47 text ≡ true → IsLongestFront (λ other. IsSome (base_of six other)) text at → IsLongestFront (IsSomeBlock six) text at
 place_without six text at free p =
-    record { within = p.within; begins = base_begins_block six (take at text) p.begins; longest = λ n fits begun. p.longest n fits (block_begins_base six (take n text) (free_take n text free) begun) }
+    record { within = p.within; begins = base_begins_block six (take at text) p.begins; longest = λ n rest fits accepted. let base = block_begins_base six (take n text) (free_take n text free) (rest, accepted) in p.longest n base.0 fits base.1 }
 
 -- the front of a text with two parts
 take_front : (n : ℕ) (front rest : List ℕ) → n ≤ length front → take n (front ++ rest) ≡ take n front
@@ -125,11 +125,11 @@ take_past m (x ∷ front) behind b =
     ap (λ (k : ℕ). take k (x ∷ (front ++ b ∷ behind))) (let e : suc (length front) + 1 + m ≡ suc (length front + 1 + m) = omega arith in e) ∙ ap (λ (ys : List ℕ). x ∷ ys) (take_past m front behind b)
 
 -- a text whose first part is no address
-pub place_before : (six : Bool) (text front behind : List ℕ) (at : ℕ) → text ≡ front ++ 47 ∷ behind → is_free 47 front ≡ true → base_of six front ≡ None → IsPlace (λ other. IsSome (base_of six other)) front at → IsPlace (IsSomeBlock six) text at
-place_before six text front behind at is free none p = subst (λ (xs : List ℕ). IsPlace (IsSomeBlock six) xs at) (sym is) (record {
+pub place_before : (six : Bool) (text front behind : List ℕ) (at : ℕ) → text ≡ front ++ 47 ∷ behind → is_free 47 front ≡ true → base_of six front ≡ None → IsLongestFront (λ other. IsSome (base_of six other)) front at → IsLongestFront (IsSomeBlock six) text at
+place_before six text front behind at is free none p = subst (λ (xs : List ℕ). IsLongestFront (IsSomeBlock six) xs at) (sym is) (record {
   within = omega (arith, p.within, length-append front (47 ∷ behind));
   begins = subst (λ (xs : List ℕ). Begins (IsSomeBlock six) xs) (sym (take_front at front (47 ∷ behind) p.within)) (base_begins_block six (take at front) p.begins);
-  longest = longest;
+  longest = λ n rest fits accepted. longest n fits (rest, accepted);
 })
   where
     longest : (n : ℕ) → n ≤ length (front ++ 47 ∷ behind) → Begins (IsSomeBlock six) (take n (front ++ 47 ∷ behind)) → n ≤ at
@@ -142,17 +142,18 @@ place_before six text front behind at is free none p = subst (λ (xs : List ℕ)
         let cut = one_cut 47 front (take (n - length front - 1) behind ++ begun.0) parts.front parts.behind free (address_is_free parts.front begun.1.0.base parts.address) text_is in
         let clash : None ≡ Some begun.1.0.base = sym none ∙ ap (base_of six) cut.0 ∙ base_is six parts.front begun.1.0.base parts.address parts.kind in
         absurd (cc))
-        (λ before. p.longest n before (block_begins_base six (take n front) (free_take n front free) (subst (λ (xs : List ℕ). Begins (IsSomeBlock six) xs) (take_front n front (47 ∷ behind) before) begun)))
+        (λ before. let base = block_begins_base six (take n front) (free_take n front free) (subst (λ (xs : List ℕ). Begins (IsSomeBlock six) xs) (take_front n front (47 ∷ behind) before) begun) in
+        p.longest n base.0 before base.1)
         (cases_lt (length front) n)
 
 -- a text whose second part is no length
-pub place_behind : (six : Bool) (text front behind : List ℕ) (base : Ip) (at k : ℕ) → text ≡ front ++ 47 ∷ behind → is_free 47 front ≡ true → base_of six front ≡ Some base → IsPlace (IsFitting six) behind k → at ≡ length text - length behind + k → IsPlace (IsSomeBlock six) text at
+pub place_behind : (six : Bool) (text front behind : List ℕ) (base : Ip) (at k : ℕ) → text ≡ front ++ 47 ∷ behind → is_free 47 front ≡ true → base_of six front ≡ Some base → IsLongestFront (IsFitting six) behind k → at ≡ length text - length behind + k → IsLongestFront (IsSomeBlock six) text at
 place_behind six text front behind base at k is free read p at_is =
     let place : at ≡ length front + 1 + k = omega (arith, at_is, ap length is, length-append front (47 ∷ behind)) in
-    subst (λ (xs : List ℕ). IsPlace (IsSomeBlock six) xs at) (sym is) (subst (λ (j : ℕ). IsPlace (IsSomeBlock six) (front ++ 47 ∷ behind) j) (sym place) (record {
+    subst (λ (xs : List ℕ). IsLongestFront (IsSomeBlock six) xs at) (sym is) (subst (λ (j : ℕ). IsLongestFront (IsSomeBlock six) (front ++ 47 ∷ behind) j) (sym place) (record {
       within = omega (arith, p.within, length-append front (47 ∷ behind));
       begins = (p.begins.0, subst (λ (xs : List ℕ). IsSomeBlock six xs) (sym (ap (λ (xs : List ℕ). xs ++ p.begins.0) (take_past k front behind 47) ∙ append_assoc front (47 ∷ take k behind) p.begins.0)) (some_block six front base read (take k behind ++ p.begins.0) p.begins.1));
-      longest = longest;
+      longest = λ n rest fits accepted. longest n fits (rest, accepted);
     }))
   where
     longest : (n : ℕ) → n ≤ length (front ++ 47 ∷ behind) → Begins (IsSomeBlock six) (take n (front ++ 47 ∷ behind)) → n ≤ length front + 1 + k
@@ -164,7 +165,7 @@ place_behind six text front behind base at k is free read p at_is =
         sym (ap (λ (xs : List ℕ). xs ++ begun.0) (ap (λ (k : ℕ). take k (front ++ 47 ∷ behind)) m ∙ take_past (n - length front - 1) front behind 47) ∙ append_assoc front (47 ∷ take (n - length front - 1) behind) begun.0) ∙ parts.parts in
         let cut = one_cut 47 front (take (n - length front - 1) behind ++ begun.0) parts.front parts.behind free (address_is_free parts.front begun.1.0.base parts.address) text_is in
         let fitting : IsFitting six (take (n - length front - 1) behind ++ begun.0) = subst (λ (xs : List ℕ). IsFitting six xs) (sym cut.1) (begun.1.0.length, parts.long, begun.1.1.1) in
-        omega (arith, p.longest (n - length front - 1) (omega (arith, length-append front (47 ∷ behind))) (begun.0, fitting)))
+        omega (arith, p.longest (n - length front - 1) begun.0 (omega (arith, length-append front (47 ∷ behind))) fitting))
         (λ before. omega arith)
         (cases_lt (length front) n)
 
@@ -197,15 +198,15 @@ length_goes six text at number next within digits is goes =
         and_from (is_ascii_digit x) _ parts.0 (digits_push xs c parts.1 d)
 
 -- digits behind which no length goes on, or the end
-pub length_place : (six : Bool) (text : List ℕ) (at number : ℕ) → at ≤ 3 → at ≤ length text → all_ascii_digits (take at text) ≡ true → number ≡ digits_value 10 (take at text) → number ≤ most_of six → (at < length text → length_with six number at (get_or text at 0) ≡ None) → IsPlace (IsFitting six) text at
+pub length_place : (six : Bool) (text : List ℕ) (at number : ℕ) → at ≤ 3 → at ≤ length text → all_ascii_digits (take at text) ≡ true → number ≡ digits_value 10 (take at text) → number ≤ most_of six → (at < length text → length_with six number at (get_or text at 0) ≡ None) → IsLongestFront (IsFitting six) text at
 length_place six text at number few within digits is most none =
     let len = length-take-le at text within in
     stops_if (IsFitting six) text at within (length_begins six (take at text) digits (omega (arith, len)) (omega (arith, is)))
     (λ more short fits. length_stops six (take at text) (get_or text at 0) more (ap (λ (k : ℕ). length_with six k (length (take at text)) (get_or text at 0)) (sym is) ∙ ap (λ (k : ℕ). length_with six number k (get_or text at 0)) len ∙ none short) fits)
 
 -- an address as a whole begins one
-pub whole_place : (A : List ℕ → Type 0) (text : List ℕ) → A text → IsPlace A text (length text)
-whole_place A text accepted = record { within = omega arith; begins = ([], subst A (sym (ap (λ (xs : List ℕ). xs ++ []) (take-length text) ∙ append-nil text)) accepted); longest = λ n fits begun. fits }
+pub whole_place : (A : List ℕ → Type 0) (text : List ℕ) → A text → IsLongestFront A text (length text)
+whole_place A text accepted = record { within = omega arith; begins = ([], subst A (sym (ap (λ (xs : List ℕ). xs ++ []) (take-length text) ∙ append-nil text)) accepted); longest = λ n rest fits accepted. fits }
 
 pub base_accepted : (six : Bool) (text : List ℕ) (base : Ip) → Some base ≡ base_of six text → IsSome (base_of six text)
 base_accepted six text base is = is_some_base (base_of six text) base (sym is)
@@ -218,5 +219,5 @@ some_of_map : {A B : Type 0} (f : A → B) (o : Option A) → IsSome (option_map
 some_of_map f None some = absurd (cc)
 some_of_map f (Some x) some = refl
 
-pub place_mapped : {A B : Type 0} (f : A → B) (of : List ℕ → Option A) (text : List ℕ) (at : ℕ) → IsPlace (λ other. IsSome (of other)) text at → IsPlace (λ other. IsSome (option_map f (of other))) text at
+pub place_mapped : {A B : Type 0} (f : A → B) (of : List ℕ → Option A) (text : List ℕ) (at : ℕ) → IsLongestFront (λ other. IsSome (of other)) text at → IsLongestFront (λ other. IsSome (option_map f (of other))) text at
 place_mapped f of text at p = place_same (λ other. IsSome (of other)) (λ other. IsSome (option_map f (of other))) text at (λ t h. map_some f (of t) h) (λ t h. some_of_map f (of t) h) p

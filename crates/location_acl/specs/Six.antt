@@ -1,48 +1,61 @@
--- Reading addresses and blocks from the left, a byte at a time: what a front of the text says, and the value at its end.
-use Rattle.std.specs.Prelude.{◌≡◌, ℕ, ◌+◌, ◌-◌, ◌*◌, ◌/◌, ◌%◌, ◌<◌, ◌≤◌, true, not, ◌==◌, ◌&&◌, nat_lt, nat_le, List, [], ◌∷◌, Option, Some, None, option_map, option_and_then, if◌then◌else◌}
-use Rattle.std.specs.Char.{is_ascii_digit, digit_value}
-use Rattle.std.specs.Option.{option_or}
-use Rattle.location_acl.specs.declared.dotted.Dotted.{Dotted}
-use Rattle.location_acl.specs.declared.dotted.Dotted.TheVariants.{First, Second, Third, Fourth}
+-- IPv6 addresses as texts (RFC 4291, section 2.2), and reading them from the left, a byte at a time: what a front of the
+-- text says, and the value at its end.
+use Rattle.std.specs.Prelude.{◌≡◌, ℕ, ◌+◌, ◌-◌, ◌*◌, ◌/◌, ◌%◌, ◌<◌, ◌≤◌, true, not, ◌==◌, ◌&&◌, nat_lt, nat_le, ◌⊎◌, List, [], ◌∷◌, ◌++◌, length, fold, replicate, Option, Some, None, option_map, option_and_then, if◌then◌else◌}
+use Rattle.std.specs.Char.{digit_value, is_digit}
+use Rattle.std.specs.List.{list_all}
+use Rattle.std.specs.Str.Parse.{digits_value}
+use Rattle.location_acl.specs.declared.dotted.Dotted.TheVariants.{Second}
 use Rattle.location_acl.specs.declared.groups.Groups.{Groups}
 use Rattle.location_acl.specs.declared.six.Digits.{Digits}
 use Rattle.location_acl.specs.declared.six.Six.{Six}
 use Rattle.location_acl.specs.declared.six.Six.TheVariants.{Start, Colon, Joined, Gap, Group, Tail}
-use Rattle.location_acl.specs.declared.ip.Ip.{Ip}
-use Rattle.location_acl.specs.declared.ip.Ip.TheVariants.{V4, V6}
+use Rattle.location_acl.specs.Dotted.{IsDotted, number_with, dotted_step, dotted_value}
 use Rattle.location_acl.specs.Groups.{AreBounded, no_groups, has_room, has_room_for_dotted, is_whole, with_group, with_gap, groups_value}
 
--- the number with one more decimal digit behind it: 0 to 255, without leading zeros
-abbrev pub number_with : Option ℕ → ℕ → Option ℕ
-number_with None byte = if is_ascii_digit byte then Some (byte - 48) else None
-number_with (Some n) byte =
-    if is_ascii_digit byte && (nat_lt 0 n && nat_le (n * 10 + (byte - 48)) 255) then Some (n * 10 + (byte - 48)) else None
+-- 1 to 4 hexadecimal digits, and their number
+pub record IsGroup (text : List ℕ) (group : ℕ) : Type 0 where
+  pub some : 1 ≤ length text
+  pub few : length text ≤ 4
+  pub digits : list_all (λ byte. is_digit byte 16) text ≡ true
+  pub valued : group ≡ digits_value 16 text
 
--- the front of an IPv4 address with one more byte
-abbrev pub dotted_step : Dotted → ℕ → Option Dotted
-dotted_step (First number) byte =
-    if byte == 46 then option_map (λ a. Second a None) number else option_map (λ n. First (Some n)) (number_with number byte)
-dotted_step (Second a number) byte =
-    if byte == 46 then option_map (λ b. Third a b None) number else option_map (λ n. Second a (Some n)) (number_with number byte)
-dotted_step (Third a b number) byte =
-    if byte == 46 then option_map (λ c. Fourth a b c None) number else option_map (λ n. Third a b (Some n)) (number_with number byte)
-dotted_step (Fourth a b c number) byte = option_map (λ n. Fourth a b c (Some n)) (number_with number byte)
+-- groups joined by `:`, of which there may be none
+abbrev pub AreJoined : List ℕ → List ℕ → Type 0
+AreJoined text [] = text ≡ []
+AreJoined text (group ∷ []) = IsGroup text group
+AreJoined text (group ∷ next ∷ groups) =
+    (digits : List ℕ) × (rest : List ℕ) × (text ≡ digits ++ 58 ∷ rest) × IsGroup digits group × AreJoined rest (next ∷ groups)
 
--- the address, where the front is one
-abbrev pub dotted_value : Dotted → Option ℕ
-dotted_value (First number) = None
-dotted_value (Second a number) = None
-dotted_value (Third a b number) = None
-dotted_value (Fourth a b c number) = option_map (λ d. a * 16777216 + b * 65536 + c * 256 + d) number
+-- the same, where an IPv4 address may stand for the last two groups
+abbrev pub AreWritten : List ℕ → List ℕ → Type 0
+AreWritten text [] = text ≡ []
+AreWritten text (group ∷ []) = IsGroup text group
+AreWritten text (group ∷ next ∷ groups) =
+    ((digits : List ℕ) × (rest : List ℕ) × (text ≡ digits ++ 58 ∷ rest) × IsGroup digits group × AreWritten rest (next ∷ groups))
+    ⊎ ((groups ≡ []) × (next < 65536) × IsDotted text (group * 65536 + next))
 
--- the address that the rest of a text makes of its front
-abbrev pub dotted_run : Dotted → List ℕ → Option ℕ
-dotted_run front [] = dotted_value front
-dotted_run front (byte ∷ bytes) = option_and_then (λ next. dotted_run next bytes) (dotted_step front byte)
+-- the number that these groups of 16 bits make
+abbrev pub number_of_groups : List ℕ → ℕ
+number_of_groups groups = fold (λ number group. number * 65536 + group) 0 groups
 
--- the IPv4 address that the text is
-abbrev pub dotted_of : List ℕ → Option ℕ
-dotted_of text = dotted_run (First None) text
+-- eight groups
+pub record IsWhole (text : List ℕ) (value : ℕ) : Type 0 where
+  pub groups : List ℕ
+  pub written : AreWritten text groups
+  pub eight : length groups ≡ 8
+  pub valued : value ≡ number_of_groups groups
+
+-- fewer groups with one `::`, which stands for one or more groups of zeros
+pub record IsShortened (text : List ℕ) (value : ℕ) : Type 0 where
+  pub before : List ℕ
+  pub after : List ℕ
+  pub front : List ℕ
+  pub back : List ℕ
+  pub parts : text ≡ before ++ 58 ∷ 58 ∷ after
+  pub written_before : AreJoined before front
+  pub written_after : AreWritten after back
+  pub fewer : length front + length back ≤ 7
+  pub valued : value ≡ number_of_groups (front ++ (replicate (8 - (length front + length back)) 0 ++ back))
 
 -- the value of a hexadecimal digit
 abbrev pub hex_digit : ℕ → Option ℕ
@@ -96,10 +109,6 @@ six_run front (byte ∷ bytes) = option_and_then (λ next. six_run next bytes) (
 -- the IPv6 address that the text is
 abbrev pub six_of : List ℕ → Option ℕ
 six_of text = six_run Start text
-
--- the address that the text is
-abbrev pub ip_of : List ℕ → Option Ip
-ip_of text = option_or (option_map V4 (dotted_of text)) (option_map V6 (six_of text))
 
 -- 1 to 4 hexadecimal digits and their number
 pub record AreHex (digits : Digits) : Type 0 where

@@ -73,27 +73,33 @@ fn list_rule(
 fn location_rule(effective: &Effective, place: &Place) -> Option<Rule>
     ensures { result ≡ location_rule effective.now place.now }
 {
-    match effective.location()?.decide(place) {
-        (true, _) => None,
-        (false, rule) => Some(Rule::Location { rule }),
+    let (allowed, rule) = effective.location()?.decide(place);
+    if allowed {
+        None
+    } else {
+        Some(Rule::Location { rule })
     }
 }
 
 fn time_rule(effective: &Effective, moment: Moment) -> Option<Rule>
     ensures { result ≡ time_rule effective.now moment }
 {
-    match effective.time()?.decide(moment) {
-        (true, _) => None,
-        (false, rule) => Some(Rule::Time { rule }),
+    let (allowed, rule) = effective.time()?.decide(moment);
+    if allowed {
+        None
+    } else {
+        Some(Rule::Time { rule })
     }
 }
 
 fn protocol_rule(effective: &Effective, protocol: Protocol) -> Option<Rule>
     ensures { result ≡ protocol_rule effective.now protocol }
 {
-    match effective.protocol()?.decide(protocol_name(protocol)) {
-        (true, _) => None,
-        (false, rule) => Some(Rule::Protocol { rule }),
+    let (allowed, rule) = effective.protocol()?.decide(protocol_name(protocol));
+    if allowed {
+        None
+    } else {
+        Some(Rule::Protocol { rule })
     }
 }
 

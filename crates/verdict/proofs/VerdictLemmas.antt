@@ -16,7 +16,8 @@ use Rattle.time_window.specs.Acl as time
 use Rattle.metadata_objects.specs.declared.generic.Generic.{Generic}
 use Rattle.inheritance.specs.Held.{unenforceable_of, location_of, time_of, protocol_of}
 use Rattle.verdict.specs.Plan.{plan_of}
-use Rattle.verdict.specs.Verdict.{protocol_name, denied_by, unenforceable_rule, location_rule, time_rule, protocol_rule, no_source, source_rule, list_rule, first_rule, verdict_of, IsDenied, Forbids, order_of, IsFirstToForbid}
+use Rattle.verdict.specs.Verdict.{protocol_name, denied_by, unenforceable_rule, location_rule, time_rule, protocol_rule, no_source, source_rule, list_rule, first_rule, verdict_of, NoneForbids, IsDenied, Forbids, order_of, IsFirstToForbid}
+use Rattle.verdict.proofs.Rules.{allowed_exactly}
 use Rattle.verdict.specs.declared.judging.Verdict.{Verdict}
 use Rattle.verdict.specs.declared.judging.Verdict.TheVariants.{Allow, Deny}
 
@@ -204,7 +205,13 @@ denied_by_first objects spoken place moment r = (
   λ first. ap (λ (found : Option Rule). option_map_or Deny found Allow) (first_of objects spoken place moment r first),
 )
 
-pub judged : (objects : List Generic) (spoken : Protocol) (place : Place) (moment : ℕ) (verdict : Verdict) → verdict ≡ verdict_of objects spoken place moment
+-- the same of a verdict that is the computed one
+pub denied_exactly : (objects : List Generic) (spoken : Protocol) (place : Place) (moment : ℕ) (verdict : Verdict) → verdict ≡ verdict_of objects spoken place moment
     → (r : Rule) → (verdict ≡ Deny r) ↔ IsFirstToForbid objects spoken place moment r
-judged objects spoken place moment verdict is r =
+denied_exactly objects spoken place moment verdict is r =
     let h = denied_by_first objects spoken place moment r in (λ denied. h.0 (sym is ∙ denied), λ first. is ∙ h.1 first)
+
+pub judged_allowed : (objects : List Generic) (spoken : Protocol) (place : Place) (moment : ℕ) (verdict : Verdict) → verdict ≡ verdict_of objects spoken place moment
+    → (verdict ≡ Allow) ↔ NoneForbids objects spoken place moment
+judged_allowed objects spoken place moment verdict is =
+    let h = allowed_exactly objects spoken place moment in (λ allowed. h.0 (sym is ∙ allowed), λ none. is ∙ h.1 none)

@@ -3,7 +3,7 @@
 ghost use Rattle.std.specs.Prelude.{◌≡◌, IfOk, option_map, map};
 ghost use Rattle.std.specs.List.{find};
 ghost use Rattle.metadata_objects.specs.LevelData.{level_view, index_view, hosts_view, paths_view, branches_of, branches_in, objects_in, host_view};
-ghost use Rattle.inheritance.specs.Chain.{matches_target, arrays_at, first_match, chain};
+ghost use Rattle.inheritance.specs.Chain.{matches_target, arrays_at, first_below, chain};
 
 use cdni_base::Target;
 use metadata_objects::{Generic, HostIndex, HostMatch, Level, PathMatch};
@@ -76,14 +76,14 @@ fn objects(level: &Level) -> &[Generic]
 
 // the level below this one of the first pattern that matches the path
 fn inner_level<'t>(level: &'t Level, path: &[u8]) -> Option<&'t Level>
-    ensures { option_map (λ inner. level_view inner.now) result ≡ first_match path.now (branches_in (level_view level.now)) }
+    ensures { option_map (λ inner. level_view inner.now) result ≡ first_below path.now (branches_in (level_view level.now)) }
 {
     level_for(&level.paths, path)
 }
 
 // the level of the first pattern that matches the path
 fn level_for<'t>(paths: &'t [PathMatch], path: &[u8]) -> Option<&'t Level>
-    ensures { option_map (λ level. level_view level.now) result ≡ first_match path.now (branches_of (paths_view paths.now)) }
+    ensures { option_map (λ level. level_view level.now) result ≡ first_below path.now (branches_of (paths_view paths.now)) }
 {
     'paths: for path_match in paths {
         if path_match.pattern.matches(path) {

@@ -1,5 +1,5 @@
 -- Which rule of the effective metadata is the first to forbid a delivery (RFC 8006, sections 4.1.7 and 4.2).
-use Rattle.std.specs.Prelude.{◌≡◌, ℕ, Bool, true, false, List, [], ◌∷◌, codes, None, Some}
+use Rattle.std.specs.Prelude.{◌≡◌, ◌<◌, ℕ, Bool, true, false, List, [], ◌∷◌, codes, None, Some}
 use Rattle.std.specs.Option.{option_or, option_map, option_map_or, option_and_then}
 use Rattle.std.specs.declared.option.Option.{Option}
 use Rattle.targets.specs.declared.endpoint.Endpoint.{Endpoint}
@@ -7,6 +7,7 @@ use Rattle.cdni_base.specs.declared.rule.Rule.{Rule}
 use Rattle.cdni_base.specs.declared.rule.Rule.TheVariants as rule
 use Rattle.targets.specs.declared.target.Protocol.{Protocol}
 use Rattle.targets.specs.declared.target.Protocol.TheVariants.{Http, Https}
+use Rattle.listing.specs.FirstMatch.{IsFirstMatch}
 use Rattle.location_acl.specs.Acl as location
 use Rattle.location_acl.specs.declared.footprint.Place.{Place}
 use Rattle.protocol_acl.specs.Acl as protocol
@@ -70,3 +71,36 @@ pub record NoneForbids (objects : List Generic) (spoken : Protocol) (place : Pla
   pub time : time_rule objects moment ≡ None
   pub protocol : protocol_rule objects spoken ≡ None
   pub source : source_rule objects ≡ None
+
+-- ---- the same as a relation
+
+-- there is such a list, and the first of its rules that holds, with this number, denies; or none holds, with no number
+abbrev pub IsDenied : {R : Type 0} → (R → Bool) → (R → Bool) → Option (Option (List R)) → Option ℕ → Type 0
+IsDenied holds allows None number = ⊥
+IsDenied holds allows (Some rules) number = IsFirstMatch holds allows rules (false, number)
+
+-- the rule forbids the delivery, whatever the others do
+abbrev pub Forbids : List Generic → Protocol → Place → ℕ → Rule → Type 0
+Forbids objects spoken place moment (rule.Unenforceable kind) = unenforceable_of objects ≡ Some kind
+Forbids objects spoken place moment (rule.Location number) = IsDenied (location.rule_holds place) (λ one. one.allow) (location_of objects) number
+Forbids objects spoken place moment (rule.Time number) = IsDenied (time.holds_moment moment) (λ one. one.allow) (time_of objects) number
+Forbids objects spoken place moment (rule.Protocol number) = IsDenied (protocol.names (protocol_name spoken)) (λ one. one.allow) (protocol_of objects) number
+Forbids objects spoken place moment rule.NoSource = plan_of objects ≡ []
+Forbids objects spoken place moment _ = ⊥
+
+-- the place of a rule in the order in which they are asked
+abbrev pub order_of : Rule → ℕ
+order_of rule.Method = 1
+order_of rule.NoMetadata = 2
+order_of (rule.MetadataInvalid trigger) = 3
+order_of rule.NoHost = 4
+order_of (rule.Unenforceable kind) = 5
+order_of (rule.Location number) = 6
+order_of (rule.Time number) = 7
+order_of (rule.Protocol number) = 8
+order_of rule.NoSource = 9
+
+-- the rule forbids the delivery, and none before it does
+abbrev pub IsFirstToForbid : List Generic → Protocol → Place → ℕ → Rule → Type 0
+IsFirstToForbid objects spoken place moment rule =
+    Forbids objects spoken place moment rule × ((other : Rule) → order_of other < order_of rule → Forbids objects spoken place moment other → ⊥)

@@ -14,3 +14,6 @@ pub use word::cut_at;
 
 /// A list of texts.
 pub type TextList = Listing<Text>;
+
+/// Milliseconds since the beginning of 1970, UTC.
+pub type Moment = u64;

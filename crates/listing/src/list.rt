@@ -1,8 +1,12 @@
 //! A list of items of one type.
 
 ghost use Rattle.std.specs.Prelude.{◌≡◌, ℕ, ◌<◌, List, [], ◌∷◌, ◌++◌, length, OnOk, OnErr, MatchOption, slice_get, Some};
+ghost use Rattle.std.specs.Cmp.Lexicographic.{lists_per, lists_equiv, pointwise};
+ghost use Rattle.std.specs.Hash as fed;
+ghost use Rattle.std.specs.Hash.{items_Alike};
 
 use std::alloc::{AllocError, Global};
+use std::hash::{Hash, Hasher};
 use std::marker::Model;
 
 /// Items in order. It is seen as the list of them.
@@ -72,5 +76,30 @@ impl<T> Listing<T> {
         ensures { MatchOption result ((self.old ≡ []) × (self.new ≡ [])) (λ x. self.old ≡ self.new ++ x ∷ []) }
     {
         self.items.pop()
+    }
+}
+
+impl<T: PartialEq> PartialEq for Listing<T> {
+    ghost eq = { pointwise T.eq };
+
+    ghost laws = { lists_per T.laws };
+
+    /// Whether both have equal items, in the same order.
+    fn eq(&self, other: &Listing<T>) -> bool {
+        self.as_slice() == other.as_slice()
+    }
+}
+
+impl<T: Eq> Eq for Listing<T> {
+    ghost laws = { lists_equiv T.Eq.laws };
+}
+
+impl<T: Hash> Hash for Listing<T> {
+    ghost hash_input = { fed.slice T.hash_input };
+
+    ghost respects_eq = { (items_Alike (record { fed = T.respects_eq })).fed };
+
+    fn hash<H: Hasher>(&self, state: &mut H) {
+        self.as_slice().hash(state);
     }
 }

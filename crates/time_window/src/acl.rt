@@ -5,11 +5,8 @@ ghost use Rattle.std.specs.List.{list_any};
 ghost use Rattle.listing.specs.FirstMatch.{AreNumbered};
 ghost use Rattle.time_window.specs.Acl.{holds_second, decided};
 
-use listing::Listing;
+use listing::{Listing, Moment};
 use std::marker::Model;
-
-/// Milliseconds since 1970 UTC.
-pub type Moment = u64;
 
 /// The seconds from `start` on and below `end`, since 1970 UTC. One whose start is not below its end holds none.
 #[derive(Clone, Copy, Debug, PartialEq, Eq)]

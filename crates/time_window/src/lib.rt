@@ -5,4 +5,5 @@ mod acl;
 #[cfg(test)]
 mod tests;
 
-pub use acl::{Moment, TimeRule, TimeRuleList, TimeWindow, TimeWindowAcl, TimeWindowList};
+pub use acl::{TimeRule, TimeRuleList, TimeWindow, TimeWindowAcl, TimeWindowList};
+pub use listing::Moment;

@@ -1,5 +1,6 @@
-pub mod Feeds
-pub mod Places
-pub mod Running
-pub mod Scripts
-pub mod Splits
+mod AheadLemmas
+mod BatchLemmas
+mod GrammarLemmas
+mod HistoryLemmas
+mod ReplayLemmas
+mod ScriptLemmas

@@ -1,5 +1,5 @@
 -- The grammar of a script's lines.
-use Rattle.std.specs.Prelude.{ℕ, ◌^◌, Bool, false, List, codes, bytes_eq, length, None, Some, Ok, Err, ◌==◌, ◌&&◌, ◌||◌, nat_lt, nat_le, if◌then◌else◌}
+use Rattle.std.specs.Prelude.{◌≡◌, ◌≢◌, ℕ, ◌^◌, ◌<◌, Bool, false, not, IsTrue, List, [], ◌∷◌, ◌++◌, codes, bytes_eq, decimal, length, None, Some, Ok, Err, ◌⊎◌, ◌==◌, ◌&&◌, ◌||◌, nat_lt, nat_le, if◌then◌else◌}
 use Rattle.std.specs.Char.{is_ascii_alphanumeric}
 use Rattle.std.specs.List.{list_all, list_any, slice_split}
 use Rattle.std.specs.Option.{option_map, is_some}
@@ -18,8 +18,9 @@ use Rattle.location_acl.specs.declared.footprint.Place.{Place}
 use Rattle.metadata_objects.specs.Host.{host_index_of_text}
 use Rattle.metadata_objects.specs.Reading.{Reading}
 use Rattle.metadata_objects.specs.Tree.{Index}
-use Rattle.http_node.specs.Event.{Event, RefreshBegin, RefreshEnd, Admit, Noted}
+use Rattle.http_node.specs.Call.{Event, RefreshBegin, RefreshEnd, Admit, Noted}
 use Rattle.http_node.specs.History.{Entry}
+use Rattle.http_node.specs.declared.grammar.TheConstants.{SPACE, BAR, LONGEST_METHOD}
 
 -- a decimal number below the bound, without leading zeros
 unfoldable pub number_below : ℕ → List ℕ → Option ℕ
@@ -36,7 +37,7 @@ is_url text = is_some (url_target text)
 
 -- URLs joined by bars
 abbrev pub are_urls : List ℕ → Bool
-are_urls text = list_all is_url (slice_split (λ byte. byte == 124) text)
+are_urls text = list_all is_url (slice_split (λ byte. byte == BAR) text)
 
 -- ---- the words of `get`
 
@@ -46,7 +47,7 @@ is_token_byte byte = is_ascii_alphanumeric byte || list_any (λ mark. byte == ma
 
 -- a token of 1 to 127 bytes
 unfoldable pub is_method : List ℕ → Bool
-is_method text = nat_lt 0 (length text) && nat_le (length text) 127 && list_all is_token_byte text
+is_method text = nat_lt 0 (length text) && nat_le (length text) LONGEST_METHOD && list_all is_token_byte text
 
 unfoldable pub protocol_of : List ℕ → Option Protocol
 protocol_of text = if bytes_eq text (codes "http/1.1") then Some Http else (if bytes_eq text (codes "https/1.1") then Some Https else None)
@@ -65,7 +66,7 @@ asked_of method protocol url = if is_method method then (protocol_of protocol >>
 
 -- METHOD PROTOCOL IP ASN CC URL
 unfoldable pub get_of : ℕ → List ℕ → Option Event
-get_of moment text = parts_at 32 text >>= λ method. parts_at 32 method.1 >>= λ protocol. parts_at 32 protocol.1 >>= λ address. parts_at 32 address.1 >>= λ network. parts_at 32 network.1 >>= λ country.
+get_of moment text = parts_at SPACE text >>= λ method. parts_at SPACE method.1 >>= λ protocol. parts_at SPACE protocol.1 >>= λ address. parts_at SPACE address.1 >>= λ network. parts_at SPACE network.1 >>= λ country.
     place_at address.0 network.0 country.0 >>= λ place. option_map (λ asked. Admit asked place moment) (asked_of method.0 protocol.0 country.1)
 
 -- ---- the other lines
@@ -77,7 +78,7 @@ refreshed refresh moment (Err fault) = record { event = RefreshEnd refresh None 
 
 -- R URLS JSON
 unfoldable pub meta_of : ℕ → List ℕ → Option Noted
-meta_of moment text = parts_at 32 text >>= λ number. number_of number.0 >>= λ refresh. parts_at 32 number.1 >>= λ urls.
+meta_of moment text = parts_at SPACE text >>= λ number. number_of number.0 >>= λ refresh. parts_at SPACE number.1 >>= λ urls.
     if are_urls urls.0 then Some (refreshed refresh moment (host_index_of_text urls.1)) else None
 
 -- a call of which nothing is noted
@@ -89,7 +90,7 @@ abbrev pub worded : ℕ → List ℕ × List ℕ → Option Noted
 worded moment word = if bytes_eq word.0 (codes "meta") then meta_of moment word.1 else (if bytes_eq word.0 (codes "get") then option_map plain (get_of moment word.1) else None)
 
 unfoldable pub call_of : ℕ → List ℕ → Option Noted
-call_of moment text = if bytes_eq text (codes "refresh") then Some (plain (RefreshBegin moment)) else (parts_at 32 text >>= worded moment)
+call_of moment text = if bytes_eq text (codes "refresh") then Some (plain (RefreshBegin moment)) else (parts_at SPACE text >>= worded moment)
 
 -- a script line: the pass that calls, and its call
 abbrev pub Scripted : Type 0
@@ -97,8 +98,96 @@ Scripted = ℕ × Noted
 
 -- PASS MOMENT and a call
 unfoldable pub line_of : List ℕ → Option Scripted
-line_of line = parts_at 32 line >>= λ pass. number_below (2 ^ 32) pass.0 >>= λ number. parts_at 32 pass.1 >>= λ moment. number_of moment.0 >>= λ at. option_map (λ noted. (number, noted)) (call_of at moment.1)
+line_of line = parts_at SPACE line >>= λ pass. number_below (2 ^ 32) pass.0 >>= λ number. parts_at SPACE pass.1 >>= λ moment. number_of moment.0 >>= λ at. option_map (λ noted. (number, noted)) (call_of at moment.1)
 
 -- the entry of a script line
 abbrev pub entry_of : Scripted → Entry
 entry_of line = (line.0, line.1.event)
+
+-- ---- what a line says, in the words of the grammar
+
+-- no byte is a space
+abbrev pub NoSpace : List ℕ → Type 0
+NoSpace word = IsTrue (list_all (λ byte. not (byte == SPACE)) word)
+
+-- these words, each with one space behind it, and then the rest
+abbrev pub IsWords : List (List ℕ) → List ℕ → List ℕ → Type 0
+IsWords [] rest text = text ≡ rest
+IsWords (word ∷ words) rest text = (behind : List ℕ) × (text ≡ word ++ SPACE ∷ behind) × NoSpace word × IsWords words rest behind
+
+-- the decimal text of a number, which is below 2 ^ 64
+abbrev pub IsNumber : List ℕ → ℕ → Type 0
+IsNumber text n = (text ≡ decimal n) × (n < 2 ^ 64)
+
+-- `-` for none, or what another text stands for
+abbrev pub IsOptional : {A : Type 0} → (List ℕ → Option A) → List ℕ → Option A → Type 0
+IsOptional read text None = text ≡ codes "-"
+IsOptional read text (Some a) = (text ≢ codes "-") × (read text ≡ Some a)
+
+abbrev pub IsProtocol : List ℕ → Protocol → Type 0
+IsProtocol text Http = text ≡ codes "http/1.1"
+IsProtocol text Https = text ≡ codes "https/1.1"
+
+-- the client's address, network and country
+pub record IsPlace (address network country : List ℕ) (place : Place) : Type 0 where
+  pub ip : ip_of address ≡ Some place.ip
+  pub asn : IsOptional asn_of network place.asn
+  pub letters : IsOptional country_of country place.country
+
+-- a request with a token of at most 127 bytes as its method, for an absolute URL
+pub record IsAsked (method protocol url : List ℕ) (asked : Asked) : Type 0 where
+  pub token : IsTrue (is_method method)
+  pub same : asked.method ≡ method
+  pub spoken : IsProtocol protocol asked.protocol
+  pub target : url_target url ≡ Some asked.target
+
+-- refresh
+abbrev pub SaysRefresh : ℕ → List ℕ → Noted → Type 0
+SaysRefresh moment text said = (text ≡ codes "refresh") × (said ≡ plain (RefreshBegin moment))
+
+-- meta R URLS JSON
+pub record SaysMeta (moment : ℕ) (text : List ℕ) (said : Noted) : Type 0 where
+  pub number : List ℕ
+  pub urls : List ℕ
+  pub json : List ℕ
+  pub refresh : ℕ
+  pub words : IsWords (codes "meta" ∷ number ∷ urls ∷ []) json text
+  pub numbered : IsNumber number refresh
+  pub joined : IsTrue (are_urls urls)
+  pub call : said ≡ refreshed refresh moment (host_index_of_text json)
+
+-- get METHOD PROTOCOL IP ASN CC URL
+pub record SaysGet (moment : ℕ) (text : List ℕ) (said : Noted) : Type 0 where
+  pub method : List ℕ
+  pub protocol : List ℕ
+  pub address : List ℕ
+  pub network : List ℕ
+  pub country : List ℕ
+  pub url : List ℕ
+  pub asked : Asked
+  pub place : Place
+  pub words : IsWords (codes "get" ∷ method ∷ protocol ∷ address ∷ network ∷ country ∷ []) url text
+  pub asks : IsAsked method protocol url asked
+  pub placed : IsPlace address network country place
+  pub call : said ≡ plain (Admit asked place moment)
+
+-- one of the three calls
+abbrev pub SaysCall : ℕ → List ℕ → Noted → Type 0
+SaysCall moment text said = SaysRefresh moment text said ⊎ (SaysMeta moment text said ⊎ SaysGet moment text said)
+
+-- PASS MOMENT and a call
+pub record Says (line : List ℕ) (said : Scripted) : Type 0 where
+  pub pass : List ℕ
+  pub moment : List ℕ
+  pub call : List ℕ
+  pub at : ℕ
+  pub words : IsWords (pass ∷ moment ∷ []) call line
+  pub numbered : IsNumber pass said.0
+  pub small : said.0 < 2 ^ 32
+  pub timed : IsNumber moment at
+  pub called : SaysCall at call said.1
+
+-- what was read of a line is what it says, and nothing where it says nothing
+abbrev pub ReadsAs : List ℕ → Option Scripted → Type 0
+ReadsAs line (Some said) = Says line said
+ReadsAs line None = (said : Scripted) → Says line said → ⊥

@@ -8,7 +8,7 @@ use Rattle.cdni_base.specs.declared.target.Asked.{Asked}
 use Rattle.location_acl.specs.declared.footprint.Place.{Place}
 use Rattle.metadata_objects.specs.Tree.{Index}
 use Rattle.http_node.specs.Admission.{judged}
-use Rattle.http_node.specs.Event.{Event, RefreshBegin, RefreshEnd, Admit}
+use Rattle.http_node.specs.Call.{Event, RefreshBegin, RefreshEnd, Admit}
 use Rattle.http_node.specs.declared.call.Reply.{Reply}
 use Rattle.http_node.specs.declared.call.Reply.TheVariants as reply
 use Rattle.http_node.specs.declared.call.OpenRefresh.{OpenRefresh}

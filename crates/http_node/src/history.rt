@@ -3,7 +3,7 @@
 ghost use Rattle.std.specs.Prelude.{◌≡◌, ◌+◌, ◌<◌, ◌≤◌, length, IfOk, OnOk, OnErr, OnSome, MatchOption, None, slice_get, option_map};
 ghost use Rattle.std.specs.List.{find, remove};
 ghost use Rattle.metadata_objects.specs.Tree.{index_view};
-ghost use Rattle.http_node.specs.Event.{event_of};
+ghost use Rattle.http_node.specs.Call.{event_of};
 ghost use Rattle.http_node.specs.History.{is_open, without};
 
 use crate::admission::{Judged, judge_request};

@@ -1,5 +1,5 @@
-use Rattle.http_node.proofs.Places.{begun_at_place}
-use Rattle.http_node.proofs.step.Core.end_open.Goals as goal
+use Rattle.http_node.proofs.HistoryLemmas.{begun_at_place}
+use Rattle.http_node.proofs.history.Core.end_open.Goals as goal
 
 pub returns-in-Some-clause-found : goal.returns-in-Some-clause-found
 returns-in-Some-clause-found c =

@@ -1,7 +1,7 @@
 use Rattle.std.proofs.Common.{◌≡◌, ◌++◌, take, drop}
 use Rattle.std.specs.List.{find}
 use Rattle.http_node.specs.History.{is_open, without}
-use Rattle.http_node.proofs.step.open_place.Given as goal
+use Rattle.http_node.proofs.history.open_place.Given as goal
 
 abbrev pub invariant-refreshes : goal.invariant-refreshes
 invariant-refreshes l = record {

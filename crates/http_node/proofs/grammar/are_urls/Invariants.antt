@@ -1,8 +1,8 @@
 use Rattle.std.proofs.Common.{◌≡◌, length}
 use Rattle.std.specs.List.{list_all}
 use Rattle.http_node.specs.Grammar.{is_url}
-use Rattle.http_node.proofs.Splits.{parts_of}
-use Rattle.http_node.proofs.script.are_urls.Given as goal
+use Rattle.http_node.proofs.GrammarLemmas.{parts_of}
+use Rattle.http_node.proofs.grammar.are_urls.Given as goal
 
 abbrev pub invariant-urls : goal.invariant-urls
 invariant-urls l = list_all is_url (parts_of 124 l.rest) ≡ list_all is_url (parts_of 124 l.text)

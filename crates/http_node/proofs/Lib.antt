@@ -2,5 +2,6 @@ mod AheadLemmas
 mod BatchLemmas
 mod GrammarLemmas
 mod HistoryLemmas
+mod NumberLemmas
 mod ReplayLemmas
 mod ScriptLemmas

@@ -1,7 +1,7 @@
 -- A history of calls, oldest first, what it leaves, and what the next call is answered.
-use Rattle.std.specs.Prelude.{ℕ, ◌+◌, ◌-◌, ◌^◌, Bool, List, [], ◌∷◌, ◌++◌, min, None, Some, ◌==◌, ◌&&◌, nat_lt, if◌then◌else◌}
-use Rattle.std.specs.List.{find, fold}
-use Rattle.std.specs.Option.{option_map, option_and_then}
+use Rattle.std.specs.Prelude.{◌≡◌, ℕ, ◌+◌, ◌-◌, ◌^◌, Bool, false, not, IsTrue, List, [], ◌∷◌, ◌++◌, min, None, Some, ◌==◌, ◌&&◌, nat_lt, if◌then◌else◌}
+use Rattle.std.specs.List.{find, fold, list_all, list_any}
+use Rattle.std.specs.Option.{option_map, option_map_or, option_and_then}
 use Rattle.std.specs.declared.option.Option.{Option}
 use Rattle.cdni_base.specs.Limits.{Bounds}
 use Rattle.cdni_base.specs.declared.target.Asked.{Asked}
@@ -143,3 +143,39 @@ world_of limits h = fold after (nothing limits) h
 -- what the entry is answered after the history
 abbrev pub reply_to : Bounds → History → Entry → Reply
 reply_to limits h e = reply_in (world_of limits h) e
+
+-- ---- what is said of histories
+
+-- the number of the installed refresh, 0 where none is installed
+abbrev pub installed_refresh : World → ℕ
+installed_refresh w = option_map_or (λ i. i.refresh) w.installed 0
+
+-- the number of the delivery that a reply begins
+abbrev pub begun_delivery : Reply → Option ℕ
+begun_delivery (reply.Denied delivery rule) = Some delivery
+begun_delivery (reply.Miss delivery fetch plan) = Some delivery
+begun_delivery _ = None
+
+-- the number of the refresh that a reply begins
+abbrev pub begun_refresh : Reply → Option ℕ
+begun_refresh (reply.Due refresh) = Some refresh
+begun_refresh _ = None
+
+-- this refresh, which this pass began, is open
+abbrev pub IsOpen : World → ℕ → ℕ → Type 0
+IsOpen w refresh pass = IsTrue (list_any (is_open refresh pass) w.refreshes)
+
+-- the entry of this pass asks for the end of this refresh
+abbrev pub ends : ℕ → ℕ → Entry → Bool
+ends refresh pass (by, RefreshEnd number index moment) = number == refresh && by == pass
+ends refresh pass (by, RefreshBegin moment) = false
+ends refresh pass (by, Admit asked place moment) = false
+
+-- an entry of this pass was answered with the number of this refresh, and no later one of the pass asks for its end
+pub record HasBegun (limits : Bounds) (h : History) (refresh pass : ℕ) : Type 0 where
+  pub before : History
+  pub moment : ℕ
+  pub since : History
+  pub whole : h ≡ before ++ (pass, RefreshBegin moment) ∷ since
+  pub begun : reply_to limits before (pass, RefreshBegin moment) ≡ reply.Due refresh
+  pub kept : IsTrue (list_all (λ e. not (ends refresh pass e)) since)

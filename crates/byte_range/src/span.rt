@@ -1,6 +1,6 @@
 // What part of a body answers a range.
-ghost use Rattle.std.specs.Prelude.{◌≡◌};
-ghost use Rattle.byte_range.specs.Span.{span_of, IsAnswer};
+ghost use Rattle.std.specs.Prelude.{◌≡◌, ℕ, List, length};
+ghost use Rattle.byte_range.specs.Span.{span_of, IsAnswer, part_of, slice};
 
 use crate::want::Want;
 
@@ -17,6 +17,7 @@ pub enum Span {
 pub fn resolve(want: Want, len: u64) -> Span
     ensures value { result ≡ span_of want len }
     ensures answer { IsAnswer want len result }
+    ensures slice { (body : List ℕ) → length body ≡ len → part_of body result ≡ slice body want }
 {
     match want {
         Want::All => Span::Whole,

@@ -105,6 +105,7 @@ fn numbers_past_the_largest(rt: HostRuntime) {
 #[test]
 fn laws_are_cited() {
     laws::grammar_has_one_reading();
+    laws::part_is_the_bytes_first_to_last();
 }
 
 #[test]

@@ -7,7 +7,7 @@ use Rattle.std.specs.List.{slice_split, onto_first, position_or_len, join_with_b
 use Rattle.std.specs.Option.{option_map}
 use Rattle.listing.specs.Word.{parts_at}
 use Rattle.cdni_base.specs.declared.key.Ignored.TheVariants as ignored
-use Rattle.cdni_base.specs.declared.target.Target.{Target}
+use Rattle.targets.specs.declared.target.Target.{Target}
 use Rattle.cdni_base.specs.Key.{KeyParts, pieces_of, joined, is_kept, key_of, AreIgnored, IsSameBut}
 
 abbrev is_cut : ℕ → Bool

@@ -1,9 +1,3 @@
-pub mod EndpointLemmas
-pub mod FrontLemmas
 pub mod KeyLemmas
 pub mod ProviderFronts
 pub mod ProviderLemmas
-pub mod RowLemmas
-pub mod TargetFronts
-pub mod TargetLemmas
-pub mod UrlLemmas

@@ -11,11 +11,11 @@ use Rattle.std.specs.declared.result.Result.{Result}
 use Rattle.cdni_base.specs.declared.provider.ProviderId.{ProviderId}
 use Rattle.cdni_base.specs.declared.provider.ProviderFault.{ProviderFault}
 use Rattle.cdni_base.specs.declared.provider.ProviderFault.TheVariants.{Bad, Memory}
-use Rattle.cdni_base.specs.Endpoint.{is_name_byte}
-use Rattle.cdni_base.specs.Fronts.{IsLongestFront}
+use Rattle.targets.specs.Endpoint.{is_name_byte}
+use Rattle.listing.specs.Fronts.{IsLongestFront}
 use Rattle.cdni_base.specs.Provider.{IsProvider, as_length, wrong_qualifier, wrong_number, wrong_place, ReadsProvider, ProviderStands}
-use Rattle.cdni_base.proofs.EndpointLemmas.{prefix_all, all_of_prefix}
-use Rattle.cdni_base.proofs.FrontLemmas.{take_front, prefix_from_all, all_of_take, heads, tails, ok_err, err_same}
+use Rattle.targets.proofs.EndpointLemmas.{prefix_all, all_of_prefix}
+use Rattle.targets.proofs.FrontLemmas.{take_front, prefix_from_all, all_of_take, heads, tails, ok_err, err_same}
 use Rattle.cdni_base.proofs.ProviderLemmas.{digits_all, as_right, cut_at, two_more, three_more}
 
 -- an id that is written of its parts

@@ -12,9 +12,9 @@ use Rattle.std.specs.declared.result.Result.{Result}
 use Rattle.cdni_base.specs.declared.provider.ProviderId.{ProviderId}
 use Rattle.cdni_base.specs.declared.provider.ProviderFault.{ProviderFault}
 use Rattle.cdni_base.specs.declared.provider.ProviderFault.TheVariants.{Bad, Memory}
-use Rattle.cdni_base.specs.Endpoint.{is_name_byte}
+use Rattle.targets.specs.Endpoint.{is_name_byte}
 use Rattle.cdni_base.specs.Provider.{IsProvider, IsProviderId, as_length, wrong_qualifier, wrong_number, wrong_place, provider_of, ReadsProvider, AnswersProvider}
-use Rattle.cdni_base.proofs.EndpointLemmas.{ok_same, err_ok, prefix_all, all_of_prefix}
+use Rattle.targets.proofs.EndpointLemmas.{ok_same, err_ok, prefix_all, all_of_prefix}
 
 -- digits as bytes that are all digits
 pub digits_all : (digits : List ℕ) → all_ascii_digits digits ≡ list_all is_ascii_digit digits

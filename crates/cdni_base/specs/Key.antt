@@ -1,17 +1,21 @@
 -- Cache keys: what of a target tells one kept object from another.
-use Rattle.std.specs.Prelude.{◌≡◌, ℕ, Bool, true, false, not, List, [], ◌∷◌, filter, None, Some, bytes_eq, ◌==◌, IsTrue}
+use Rattle.std.specs.Prelude.{◌≡◌, ℕ, Bool, true, false, not, List, [], ◌∷◌, ◌++◌, filter, None, Some, bytes_eq, nat_eq, ◌==◌, ◌&&◌, IsTrue}
+use Rattle.std.specs.Cmp.Lexicographic.{pointwise}
+use Rattle.std.specs.Hash as fed
+use Rattle.std.specs.Hash.{HashWrites}
+use Rattle.std.specs.Option.{option_eq}
 use Rattle.std.specs.List.{slice_split, before_first, join_with_byte, list_any, list_all}
 use Rattle.std.specs.Str.{str_to_ascii_lowercase}
 use Rattle.std.specs.declared.option.Option.{Option}
-use Rattle.cdni_base.specs.declared.endpoint.HostName.{HostName}
 use Rattle.cdni_base.specs.declared.key.Ignored.{Ignored}
 use Rattle.cdni_base.specs.declared.key.Ignored.TheVariants as ignored
-use Rattle.cdni_base.specs.declared.target.Target.{Target}
-use Rattle.cdni_base.specs.Target.{url_of}
+use Rattle.targets.specs.declared.target.Target.{Target}
+use Rattle.targets.specs.Target.{url_of}
+use Rattle.targets.specs.declared.byte.TheConstants.{AMPERSAND, EQUALS}
 
 -- a key, without its URL texts, which the others give
 pub record KeyParts : Type 0 where
-  pub host : HostName
+  pub host : List ℕ
   pub port : ℕ
   pub path : List ℕ
   pub query : Option (List ℕ)
@@ -20,11 +24,11 @@ pub record KeyParts : Type 0 where
 -- the pieces of a query, which stand between its `&`; where there is no query there are none
 abbrev pub pieces_of : Option (List ℕ) → List (List ℕ)
 pieces_of None = []
-pieces_of (Some query) = slice_split (λ byte. byte == 38) query
+pieces_of (Some query) = slice_split (λ byte. byte == AMPERSAND) query
 
 -- the name of a piece, in lower case: what stands before its first `=`, or the whole where there is none
 abbrev pub name_of : List ℕ → List ℕ
-name_of piece = str_to_ascii_lowercase (before_first (λ byte. byte == 61) piece)
+name_of piece = str_to_ascii_lowercase (before_first (λ byte. byte == EQUALS) piece)
 
 -- the piece is kept, since its name is none of these
 abbrev pub is_kept : List (List ℕ) → List ℕ → Bool
@@ -33,7 +37,7 @@ is_kept names piece = not (list_any (λ name. bytes_eq name (name_of piece)) nam
 -- these pieces in order, joined by `&`; absent where there are none
 abbrev pub joined : List (List ℕ) → Option (List ℕ)
 joined [] = None
-joined (piece ∷ pieces) = Some (join_with_byte 38 (piece ∷ pieces))
+joined (piece ∷ pieces) = Some (join_with_byte AMPERSAND (piece ∷ pieces))
 
 -- what is kept of the query of a target
 abbrev pub kept_query : Ignored → Option (List ℕ) → Option (List ℕ)
@@ -58,3 +62,25 @@ AreIgnored names pieces = IsTrue (list_all (λ piece. not (is_kept names piece))
 abbrev pub IsSameBut : List (List ℕ) → Target → Target → Type 0
 IsSameBut names target other = (target.host ≡ other.host) × (target.port ≡ other.port) × (target.path ≡ other.path)
     × (filter (is_kept names) (pieces_of target.query) ≡ filter (is_kept names) (pieces_of other.query))
+
+-- the same is ignored
+abbrev pub same_ignored : Ignored → Ignored → Bool
+same_ignored ignored.None ignored.None = true
+same_ignored ignored.All ignored.All = true
+same_ignored (ignored.Names names) (ignored.Names others) = pointwise bytes_eq names others
+same_ignored ignored other = false
+
+-- all parts of the keys are the same
+abbrev pub same_key : KeyParts → KeyParts → Bool
+same_key key other = nat_eq key.port other.port
+    && (bytes_eq key.path other.path && (bytes_eq key.host other.host && (option_eq bytes_eq key.query other.query && same_ignored key.ignored other.ignored)))
+
+-- what a hasher is fed of what is ignored: the variant's number, and then the names
+abbrev pub fed_ignored : Ignored → HashWrites
+fed_ignored ignored.None = fed.u8 0
+fed_ignored ignored.All = fed.u8 1
+fed_ignored (ignored.Names names) = fed.u8 2 ++ fed.slice (fed.slice fed.u8) names
+
+-- what a hasher is fed of a key: its URL
+abbrev pub fed_key : KeyParts → HashWrites
+fed_key key = fed.slice fed.u8 (key_text false true key)

@@ -1,9 +1,7 @@
-pub mod Endpoint
-pub mod Fronts
-pub mod Grammar
 pub mod Key
+pub mod KeyEqualityLemmas
 pub mod Limits
 pub mod Provider
 pub mod Rule
 pub mod Scratch
-pub mod Target
+pub mod TypeName

@@ -4,15 +4,19 @@ ghost use Rattle.std.specs.Prelude.{◌≡◌, ◌==◌, ◌↔◌, ◌≤◌, �
 ghost use Rattle.std.specs.List.{position_or_len, list_any};
 ghost use Rattle.std.specs.Str.{str_to_ascii_lowercase};
 ghost use Rattle.std.specs.Option.{option_map};
-ghost use Rattle.cdni_base.specs.Target.{query_text};
-ghost use Rattle.cdni_base.specs.Key.{pieces_of, is_kept, joined, kept_query, key_of, key_text};
+ghost use Rattle.targets.specs.Target.{query_text};
+ghost use Rattle.std.specs.Cmp.{decided, partial_equiv_from_equiv};
+ghost use Rattle.std.specs.Hash.{same_Alike};
+ghost use Rattle.targets.specs.declared.byte.TheConstants.{AMPERSAND, EQUALS};
+ghost use Rattle.cdni_base.specs.Key.{pieces_of, is_kept, joined, kept_query, key_of, key_text, same_ignored, same_key, fed_ignored, fed_key};
+ghost use Rattle.cdni_base.specs.KeyEqualityLemmas.{ignored_decides, key_decides};
 
-use crate::endpoint::HostName;
-use crate::target::Target;
-use crate::url::url_of;
 use listing::{Text, TextList, cut_at};
 use std::alloc::{AllocError, Global};
+use std::hash::{Hash, Hasher};
 use std::marker::Model;
+use targets::byte::{AMPERSAND, EQUALS};
+use targets::{HostName, Target, url_of};
 
 /// Which part of a query plays no part in a key (RFC 8006, section 4.2.6, `ignore-query-string`).
 #[derive(Clone, Drop)]
@@ -40,7 +44,7 @@ pub struct Key {
 impl Model for Key {
     ghost use Rattle.std.specs.Prelude.{◌≡◌, true, false};
     ghost use Rattle.cdni_base.specs.Key.{KeyParts};
-    ghost use Rattle.cdni_base.specs.Target.{url_of};
+    ghost use Rattle.targets.specs.Target.{url_of};
 
     ghost Value = { KeyParts };
 
@@ -108,9 +112,82 @@ impl Key {
         ensures { IsTrue result ↔ (key_of target.now self.now.ignored ≡ self.now) }
     {
         self.port == target.port
-            && self.host.0.is(target.host.0.bytes())
+            && self.host.0.is(target.host.bytes())
             && self.path.is(target.path.bytes())
             && is_kept_query(&self.ignored, &target.query, &self.query)
+    }
+}
+
+/// Whether the keys are the same in all their parts.
+pub fn is_same_key(key: &Key, other: &Key) -> bool
+    ensures { IsTrue result ↔ (key.now ≡ other.now) }
+{
+    *key == *other
+}
+
+impl PartialEq for Ignored {
+    ghost eq = { same_ignored };
+
+    ghost laws = { partial_equiv_from_equiv (decided same_ignored ignored_decides) };
+
+    /// Whether the same is ignored, the names in the same order.
+    fn eq(&self, other: &Ignored) -> bool {
+        match (self, other) {
+            (Ignored::None, Ignored::None) | (Ignored::All, Ignored::All) => true,
+            (Ignored::Names(names), Ignored::Names(others)) => names == others,
+            _ => false,
+        }
+    }
+}
+
+impl Eq for Ignored {
+    ghost laws = { decided same_ignored ignored_decides };
+}
+
+impl Hash for Ignored {
+    ghost hash_input = { fed_ignored };
+
+    ghost respects_eq = { (same_Alike fed_ignored ignored_decides).fed };
+
+    fn hash<H: Hasher>(&self, state: &mut H) {
+        match self {
+            Ignored::None => 0u8.hash(state),
+            Ignored::All => 1u8.hash(state),
+            Ignored::Names(names) => {
+                2u8.hash(state);
+                names.hash(state);
+            }
+        }
+    }
+}
+
+impl PartialEq for Key {
+    ghost eq = { same_key };
+
+    ghost laws = { partial_equiv_from_equiv (decided same_key key_decides) };
+
+    /// Whether the keys are the same in all their parts.
+    fn eq(&self, other: &Key) -> bool {
+        self.port == other.port
+            && self.path == other.path
+            && self.host == other.host
+            && self.query == other.query
+            && self.ignored == other.ignored
+    }
+}
+
+impl Eq for Key {
+    ghost laws = { decided same_key key_decides };
+}
+
+impl Hash for Key {
+    ghost hash_input = { fed_key };
+
+    ghost respects_eq = { (same_Alike fed_key key_decides).fed };
+
+    /// Feeds the key's URL.
+    fn hash<H: Hasher>(&self, state: &mut H) {
+        self.text(false, true).hash(state);
     }
 }
 
@@ -202,7 +279,7 @@ fn text_if(any: bool, bytes: Vec<u8>) -> Option<Text>
 
 // adds a piece, behind `&` where there is any before it
 fn add_piece(kept: &mut Vec<u8>, any: bool, piece: &[u8]) -> Result<(), AllocError>
-    ensures { OnOk result (kept.new.items ≡ (if any then kept.old.items ++ 38 ∷ piece.now else kept.old.items ++ piece.now)) }
+    ensures { OnOk result (kept.new.items ≡ (if any then kept.old.items ++ AMPERSAND ∷ piece.now else kept.old.items ++ piece.now)) }
 {
     if any {
         kept.extend_from_slice(b"&")?;
@@ -238,7 +315,7 @@ fn next_piece(text: &[u8]) -> (&[u8], Option<&[u8]>)
     ensures pieces { pieces_of (Some text.now) ≡ result.0.now ∷ pieces_of (option_map (λ bytes. bytes.now) result.1) }
     ensures shorter { IfSome result.1 (λ others. length others.now < length text.now) }
 {
-    match cut_at(b'&', text) {
+    match cut_at(AMPERSAND, text) {
         Some((piece, others)) => (piece, Some(others)),
         None => (text, None),
     }
@@ -253,10 +330,10 @@ fn is_kept(names: &[Text], piece: &[u8]) -> bool
 
 // how many bytes stand before the first `=`
 fn length_before_equals(piece: &[u8]) -> usize
-    ensures length { result ≡ position_or_len (λ byte. byte == 61) piece.now }
+    ensures length { result ≡ position_or_len (λ byte. byte == EQUALS) piece.now }
     ensures within { result ≤ length piece.now }
 {
-    piece.iter().take_while(|byte| **byte != b'=').count()
+    piece.iter().take_while(|byte| **byte != EQUALS).count()
 }
 
 // whether one of these names is `own` in lower case

@@ -1,26 +1,12 @@
 //! What the definitions mean, as laws above them. Each function does nothing: its contract is the law.
 
-ghost use Rattle.std.specs.Prelude.{◌≡◌, ◌≢◌, ◌≤◌, ◌↔◌, ◌++◌, Bool, true, List, ℕ, length};
+ghost use Rattle.std.specs.Prelude.{◌≡◌, ◌↔◌, ◌++◌, List, ℕ};
 ghost use Rattle.std.specs.declared.option.Option.{Option};
-ghost use Rattle.cdni_base.specs.declared.endpoint.Endpoint.{Endpoint};
-ghost use Rattle.cdni_base.specs.declared.target.Target.{Target};
+ghost use Rattle.targets.specs.declared.target.Target.{Target};
 ghost use Rattle.cdni_base.specs.declared.provider.ProviderId.{ProviderId};
-ghost use Rattle.cdni_base.specs.Grammar.{IsEndpoint, IsTarget};
 ghost use Rattle.cdni_base.specs.declared.key.Ignored.TheVariants.{Names};
 ghost use Rattle.cdni_base.specs.Key.{pieces_of, key_of, AreIgnored, IsSameBut};
 ghost use Rattle.cdni_base.specs.Provider.{IsProviderId};
-ghost use Rattle.cdni_base.specs.Target.{url_text};
-
-/// A text is one endpoint at most.
-pub fn a_text_has_one_endpoint()
-    ensures { (text : List ℕ) (endpoint other : Endpoint) → IsEndpoint text endpoint → IsEndpoint text other → endpoint ≡ other }
-{}
-
-/// A text is one target at most, where the host and the kind of the connection are given.
-pub fn a_text_has_one_target()
-    ensures { (text : List ℕ) (host : Option (List ℕ)) (secure : Bool) (target other : Target) →
-        IsTarget text host secure target → IsTarget text host secure other → target ≡ other }
-{}
 
 /// A text is one provider id at most.
 pub fn a_text_has_one_provider_id()
@@ -28,13 +14,6 @@ pub fn a_text_has_one_provider_id()
 {}
 
 /// The URL of a target, where it is within the limit of length, is read again as that target, whatever the host and the
-/// connection; but beside `https` a port of 443 reads as absent.
-pub fn a_url_is_read_again_as_its_target()
-    ensures { (text : List ℕ) (host other : Option (List ℕ)) (secure with_secure https : Bool) (target : Target) →
-        IsTarget text host secure target → (https ≡ true → target.port ≢ 443) → length (url_text https target) ≤ 4096 →
-        IsTarget (url_text https target) other with_secure target }
-{}
-
 /// Two targets whose queries differ in ignored pieces alone have one key.
 pub fn ignored_pieces_play_no_part_in_a_key()
     ensures { (target : Target) (query : Option (List ℕ)) (names front some others back : List (List ℕ)) →

@@ -3,11 +3,19 @@
 ghost use Rattle.std.specs.Prelude.{◌≡◌, ◌+◌, ◌≤◌, ◌==◌, length, slice_index, IsTrue};
 ghost use Rattle.std.specs.List.{prefix_len};
 ghost use Rattle.std.specs.Char.{is_ascii_digit};
+ghost use Rattle.targets.specs.declared.byte.TheConstants.{COLON};
 ghost use Rattle.cdni_base.specs.Provider.{as_length, wrong_qualifier, wrong_number, wrong_place, ReadsProvider, AnswersProvider, ProviderStands};
 
-use crate::endpoint::name_length;
 use listing::Text;
 use std::alloc::{AllocError, Global};
+use targets::byte::COLON;
+use targets::name_length;
+
+/// The most digits of the number of a provider id.
+pub const AS_DIGITS: usize = 10;
+
+/// The most bytes of the qualifier of a provider id.
+pub const QUALIFIER_MAX: usize = 64;
 
 /// The id of a CDN provider, as it was sent (RFC 8007, section 4.6): `AS`, 1 to 10 digits, `:`, and 1 to 64 letters,
 /// digits, `-`, `.` and `_`.
@@ -38,7 +46,7 @@ impl ProviderId {
     /// Reads a provider id.
     ///
     /// # Errors
-    /// `Bad` where the text is none, or want of memory.
+    /// `Bad` exactly where the text is none, or want of memory.
     pub fn read(alloc: Global, text: &[u8]) -> Result<ProviderId, ProviderFault>
         ensures value { ReadsProvider text.now result }
         ensures grammar { AnswersProvider text.now result }
@@ -97,19 +105,19 @@ fn wrong_number(text: &[u8], count: usize) -> Option<usize>
     requires { count + 2 ≤ length text.now }
     ensures { result ≡ wrong_number text.now count }
 {
-    if count > 0 && count <= 10 && has_colon(text, count + 2) {
+    if count > 0 && count <= AS_DIGITS && has_colon(text, count + 2) {
         let start = count + 3;
         wrong_qualifier(text, start, name_length(&text[start..]))
     } else {
-        Some(count.min(10) + 2)
+        Some(count.min(AS_DIGITS) + 2)
     }
 }
 
 fn has_colon(text: &[u8], at: usize) -> bool
-    ensures colon { result ≡ (slice_index text.now at == 58) }
+    ensures colon { result ≡ (slice_index text.now at == COLON) }
     ensures there { IsTrue result → at + 1 ≤ length text.now }
 {
-    at < text.len() && text[at] == b':'
+    at < text.len() && text[at] == COLON
 }
 
 // the first wrong place of a qualifier that begins at `start` and has so many bytes
@@ -117,9 +125,9 @@ fn wrong_qualifier(text: &[u8], start: usize, count: usize) -> Option<usize>
     requires { start + count ≤ length text.now }
     ensures { result ≡ wrong_qualifier text.now start count }
 {
-    if count > 0 && count <= 64 && start + count == text.len() {
+    if count > 0 && count <= QUALIFIER_MAX && start + count == text.len() {
         None
     } else {
-        Some(start + count.min(64))
+        Some(start + count.min(QUALIFIER_MAX))
     }
 }

@@ -1,12 +1,19 @@
 //! The rules that forbid a delivery.
 
-ghost use Rattle.std.specs.Prelude.{◌≡◌, ◌++◌};
+ghost use Rattle.std.specs.Prelude.{◌≡◌, ◌≤◌, length};
 ghost use Rattle.cdni_base.specs.Scratch.{Puts};
 ghost use Rattle.cdni_base.specs.Rule.{number_or_dash};
+ghost use Rattle.cdni_base.specs.declared.rule.TheConstants.{NUMBER_MAX, RULE_TEXT_MAX};
 
 use crate::scratch::Scratch;
+use crate::type_name::TypeName;
 use itoa::Buffer;
-use listing::Text;
+
+/// The most bytes of a rule's text.
+pub const RULE_TEXT_MAX: usize = 141;
+
+// the most digits of a number below 2^64
+const NUMBER_MAX: usize = 20;
 
 /// Why a delivery is denied, in the order in which the rules are asked.
 #[derive(Clone, Drop)]
@@ -20,7 +27,7 @@ pub enum Rule {
     /// No host of the metadata matches.
     NoHost,
     /// An effective object of this type is mandatory and not understood.
-    Unenforceable { kind: Text },
+    Unenforceable { kind: TypeName },
     /// The location list forbids, by this rule of it.
     Location { rule: Option<u32> },
     /// The time list forbids, by this rule of it.
@@ -32,7 +39,7 @@ pub enum Rule {
 }
 
 impl Rule {
-    ghost use Rattle.cdni_base.specs.Rule.{rule_status, rule_text};
+    ghost use Rattle.cdni_base.specs.Rule.{rule_status, rule_word, rule_detail, rule_text};
 
     /// The status code with which the delivery is denied (RFC 9110, section 15).
     pub fn status(&self) -> u16
@@ -49,10 +56,12 @@ impl Rule {
         }
     }
 
-    /// The text of the denial in two parts: the rule's word, and the type or number behind it, for which there is room in
-    /// `digits`.
+    /// The text of the denial in two parts: the rule's word with the space behind it, and the type or number that follows,
+    /// for which there is room in `digits`. Each is empty where the rule has none.
     pub fn text<'a>(&'a self, digits: &'a mut Buffer) -> (&'static [u8], &'a [u8])
-        ensures { result.0.now ++ result.1.now ≡ rule_text self.now }
+        ensures word { result.0.now ≡ rule_word self.now }
+        ensures detail { result.1.now ≡ rule_detail self.now }
+        ensures short { length (rule_text self.now) ≤ RULE_TEXT_MAX }
     {
         match self {
             Rule::Method => (b"method", b""),
@@ -69,19 +78,22 @@ impl Rule {
         }
     }
 
-    /// Puts the text of the denial into `out`. False exactly where it does not fit; then nothing changes.
+    /// Puts the text of the denial, of at most 141 bytes, into `out`. False exactly where it does not fit; then nothing
+    /// changes.
     pub fn put(&self, out: &mut Scratch) -> bool
-        ensures { Puts out.old out.new (rule_text self.now) result }
+        ensures put { Puts out.old out.new (rule_text self.now) result }
+        ensures short { length (rule_text self.now) ≤ RULE_TEXT_MAX }
     {
         let mut digits = Buffer::new();
-        let (word, rest) = self.text(&mut digits);
-        out.append_two(word, rest)
+        let (word, detail) = self.text(&mut digits);
+        out.append_two(word, detail)
     }
 }
 
 // the number of a rule of a list, or `-` for none
 fn rule_or_dash(rule: Option<u32>, digits: &mut Buffer) -> &[u8]
-    ensures { result.now ≡ number_or_dash rule }
+    ensures number { result.now ≡ number_or_dash rule }
+    ensures short { length (number_or_dash rule) ≤ NUMBER_MAX }
 {
     match rule {
         Some(rule) => number_or_dash(Some(rule as u64), digits),
@@ -90,7 +102,8 @@ fn rule_or_dash(rule: Option<u32>, digits: &mut Buffer) -> &[u8]
 }
 
 fn number_or_dash(number: Option<u64>, digits: &mut Buffer) -> &[u8]
-    ensures { result.now ≡ number_or_dash number }
+    ensures number { result.now ≡ number_or_dash number }
+    ensures short { length (number_or_dash number) ≤ NUMBER_MAX }
 {
     match number {
         Some(number) => digits.format(number).as_bytes(),

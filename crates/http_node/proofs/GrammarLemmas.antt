@@ -1,12 +1,12 @@
 -- Texts that are cut at a byte, one part after the other, and what the lines of a script say.
-use Rattle.std.proofs.Common.{◌≡◌, ℕ, suc, ◌+◌, ◌-◌, ◌*◌, ◌^◌, ◌<◌, ◌≤◌, ◌==◌, Bool, true, false, cond, not, ◌&&◌, IsTrue, List, [], ◌∷◌, ◌++◌, length, take, drop, refl, sym, ◌∙◌, ap, subst, arith, inl, inr, lit<, nat_lt, None, Some, Ok, Err, IfOk, length-drop, length-append, add-one}
+use Rattle.std.proofs.Common.{◌≡◌, ℕ, suc, ◌+◌, ◌-◌, ◌*◌, ◌^◌, ◌<◌, ◌≤◌, ◌==◌, Bool, true, false, cond, not, IsTrue, List, [], ◌∷◌, ◌++◌, length, take, drop, refl, sym, ◌∙◌, ap, subst, arith, inl, inr, lit<, nat_lt, None, Some, Ok, Err, IfOk, length-drop, length-append, append_assoc, add-one}
 use Rattle.std.specs.Prelude.{codes, bytes_eq}
+use Rattle.std.specs.Result.{result_ok}
 use Rattle.std.specs.declared.result.Result.{Result}
 use Rattle.std.specs.List.{slice_split, onto_first, position_or_len, list_all}
 use Rattle.std.specs.Option.{option_map}
 use Rattle.std.specs.declared.option.Option.{Option}
-use Rattle.std.proofs.lemmas.Bool.{cases_Bool, cond-true, cond-false, both_ways, false_from_ne_true, ltb-true, ltb-false, lt-ltb, eqb-true, eq-eqb, and_left, and_from, and_parts, not_from_true, not_from_false}
-use Rattle.std.proofs.Math.Bool.{and-true}
+use Rattle.std.proofs.lemmas.Bool.{cases_Bool, cond-true, cond-false, ltb-true, ltb-false, lt-ltb, eqb-true, eq-eqb, and_from, and_parts, not_from_true, not_from_false}
 use Rattle.std.proofs.lemmas.List.Splits.{slice_split_first, slice_split-cons_no}
 use Rattle.std.proofs.Math.Numerals.{one-add}
 use Rattle.std.proofs.Math.Seq.{take-append_seam, drop-append-add}
@@ -14,16 +14,24 @@ use Rattle.std.proofs.lemmas.Slice.Eq.{bytes_eq-Decides}
 use Rattle.listing.proofs.Decimals.{some_decimal, decimal_some}
 use Rattle.listing.specs.Number.{number_of, number_after}
 use Rattle.listing.specs.Word.{parts_at, ◌>>=◌}
-use Rattle.cdni_base.specs.declared.target.Asked.{Asked}
-use Rattle.cdni_base.specs.declared.target.Protocol.{Protocol}
-use Rattle.cdni_base.specs.declared.target.Protocol.TheVariants.{Http, Https}
-use Rattle.location_acl.specs.Footprint.{asn_of, country_of}
-use Rattle.location_acl.specs.Reading.{ip_of}
+use Rattle.cdni_base.specs.Key.{KeyParts, key_of}
+use Rattle.cdni_base.specs.declared.asked.Asked.{Asked}
+use Rattle.cdni_base.specs.declared.key.Ignored.TheVariants as ignored
+use Rattle.targets.proofs.TargetLemmas.{target_is_read, target_read}
+use Rattle.targets.specs.Grammar.{IsTarget}
+use Rattle.targets.specs.Target.{target_of}
+use Rattle.targets.specs.declared.target.Target.{Target}
+use Rattle.targets.specs.declared.target.Protocol.{Protocol}
+use Rattle.targets.specs.declared.target.Protocol.TheVariants.{Http, Https}
+use Rattle.location_acl.proofs.AddressLemmas.{address_is, address_from}
+use Rattle.location_acl.proofs.FootprintLemmas.{network_from_text, network_is, known_country_from_text, known_country_is}
+use Rattle.location_acl.specs.Footprint.{asn_of, country_of, optional}
+use Rattle.location_acl.specs.Ip.{ip_of}
 use Rattle.location_acl.specs.declared.footprint.Place.{Place}
 use Rattle.metadata_objects.specs.Host.{host_index_of_text}
 use Rattle.http_node.specs.Call.{Event, Admit, Noted}
-use Rattle.http_node.specs.Grammar.{number_below, url_target, are_urls, is_method, protocol_of, optional, place_at, asked_of, get_of, refreshed, meta_of, plain, worded, call_of, Scripted, line_of, NoSpace, IsNumber, IsOptional, IsProtocol, IsPlace, IsAsked, SaysMeta, SaysGet, SaysCall, Says, ReadsAs}
-use Rattle.http_node.specs.declared.grammar.TheConstants.{SPACE}
+use Rattle.http_node.specs.Grammar.{number_below, url_target, key_of_url, keys_of_urls, keys_of, is_method, protocol_of, place_at, asked_of, get_of, refreshed, meta_of, plain, worded, call_of, Scripted, line_of, NoSpace, IsNumber, IsProtocol, IsPlace, IsAsked, AreKeys, SaysMeta, SaysGet, SaysCall, Says, ReadsAs}
+use Rattle.http_node.specs.declared.grammar.TheConstants.{SPACE, BAR}
 
 abbrev pub parts_of : ℕ → List ℕ → List (List ℕ)
 parts_of byte text = slice_split (λ x. x == byte) text
@@ -64,16 +72,37 @@ whole_part byte text is =
     let f = found_none _ (position_or_len (λ x. x == byte) text) (λ place. (take place text, drop (place + 1) text)) is in
     whole (λ x. x == byte) text (ltb-false _ _ f)
 
--- a test of all parts, at the first of several and at the last
-module _ (p : List ℕ → Bool) (byte : ℕ) (text : List ℕ) (all : Bool) (so_far : list_all p (parts_of byte text) ≡ all) where
-  pub fails_here : (front after : List ℕ) → Some (front, after) ≡ parts_at byte text → p front ≡ false → false ≡ all
-  fails_here front after is no_pass = sym (ap (list_all p) (cut_parts byte text front after is) ∙ and_left _ _ no_pass) ∙ so_far
+-- ---- the keys of joined URLs
 
-  pub passes_here : (front after : List ℕ) → Some (front, after) ≡ parts_at byte text → p front ≡ true → list_all p (parts_of byte after) ≡ all
-  passes_here front after is passes = sym (ap (list_all p) (cut_parts byte text front after is) ∙ ap (λ b. b && list_all p (parts_of byte after)) passes) ∙ so_far
+-- the keys so far, and those of the rest
+abbrev pub with_front : List KeyParts → Option (List KeyParts) → Option (List KeyParts)
+with_front keys rest = option_map (λ more. keys ++ more) rest
 
-  pub last_part : None ≡ parts_at byte text → p text ≡ all
-  last_part is = sym (and-true (p text)) ∙ sym (ap (list_all p) (whole_part byte text is)) ∙ so_far
+front_on : (keys : List KeyParts) (key : KeyParts) (rest : Option (List KeyParts)) → with_front keys (option_map (λ more. key ∷ more) rest) ≡ with_front (keys ++ key ∷ []) rest
+front_on keys key None = refl
+front_on keys key (Some more) = ap Some (sym (append_assoc keys (key ∷ []) more))
+
+module _ (text : List ℕ) (keys : List KeyParts) (all : Option (List KeyParts)) (so_far : with_front keys (keys_of_urls (parts_of BAR text)) ≡ all) where
+  pub keys_fail : (url after : List ℕ) → Some (url, after) ≡ parts_at BAR text → None ≡ key_of_url url → None ≡ all
+  keys_fail url after is none =
+      sym (ap (λ parts. with_front keys (keys_of_urls parts)) (cut_parts BAR text url after is)
+      ∙ ap (λ found. with_front keys (found >>= λ key. option_map (λ more. key ∷ more) (keys_of_urls (parts_of BAR after)))) (sym none)) ∙ so_far
+
+  pub keys_on : (url after : List ℕ) (key : KeyParts) → Some (url, after) ≡ parts_at BAR text → Some key ≡ key_of_url url → with_front (keys ++ key ∷ []) (keys_of_urls (parts_of BAR after)) ≡ all
+  keys_on url after key is found =
+      sym (ap (λ parts. with_front keys (keys_of_urls parts)) (cut_parts BAR text url after is)
+      ∙ ap (λ one. with_front keys (one >>= λ k. option_map (λ more. k ∷ more) (keys_of_urls (parts_of BAR after)))) (sym found)
+      ∙ front_on keys key (keys_of_urls (parts_of BAR after))) ∙ so_far
+
+  pub keys_fail_last : None ≡ parts_at BAR text → None ≡ key_of_url text → None ≡ all
+  keys_fail_last is none =
+      sym (ap (λ parts. with_front keys (keys_of_urls parts)) (whole_part BAR text is)
+      ∙ ap (λ found. with_front keys (found >>= λ key. option_map (λ more. key ∷ more) (Some []))) (sym none)) ∙ so_far
+
+  pub keys_done : (key : KeyParts) → None ≡ parts_at BAR text → Some key ≡ key_of_url text → Some (keys ++ key ∷ []) ≡ all
+  keys_done key is found =
+      sym (ap (λ parts. with_front keys (keys_of_urls parts)) (whole_part BAR text is)
+      ∙ ap (λ one. with_front keys (one >>= λ k. option_map (λ more. k ∷ more) (Some []))) (sym found)) ∙ so_far
 
 -- ---- words
 
@@ -147,18 +176,31 @@ same_some is = cc
 none_some : {A : Type 0} {x : A} → None ≡ Some x → ⊥
 none_some is = cc
 
-optional_says : {A : Type 0} (read : List ℕ → Option A) (text : List ℕ) (found : Option A) → optional read text ≡ Some found → IsOptional read text found
-optional_says {A = A} read text found is = elim (cases_Bool (bytes_eq text (codes "-"))) [
-  | inl dash ↦ let none : None ≡ found = same_some (sym (cond-true _ (Some None) (option_map Some (read text)) dash) ∙ is) in
-      subst (IsOptional read text) none ((bytes_eq-Decides text (codes "-")).0 dash)
-  | inr other ↦ let m = found_map Some (read text) found (sym (cond-false _ (Some None) (option_map Some (read text)) other) ∙ is) in
-      subst (IsOptional read text) m.2 ((λ same. both_ways _ other ((bytes_eq-Decides text (codes "-")).1 same)), m.1)
-]
+found_target : {E : Type 0} (read : Result Target E) (target : Target) → result_ok read ≡ Some target → read ≡ Ok target
+found_target (Ok t) target is = ap Ok (same_some is)
+found_target (Err e) target is = absurd (none_some is)
 
-says_optional : {A : Type 0} (read : List ℕ → Option A) (text : List ℕ) (found : Option A) → IsOptional read text found → optional read text ≡ Some found
-says_optional read text None is = cond-true _ _ _ ((bytes_eq-Decides text (codes "-")).1 is)
-says_optional read text (Some a) is =
-    cond-false _ _ _ (false_from_ne_true _ (λ dash. is.0 ((bytes_eq-Decides text (codes "-")).0 dash))) ∙ ap (option_map Some) is.1
+url_says : (url : List ℕ) (target : Target) → url_target url ≡ Some target → IsTarget url None false target
+url_says url target is = target_read url None false target (found_target (target_of url None false) target is)
+
+says_url : (url : List ℕ) (target : Target) → IsTarget url None false target → url_target url ≡ Some target
+says_url url target is = ap result_ok (target_is_read url None false target is)
+
+keys_say : (urls : List (List ℕ)) (keys : List KeyParts) → keys_of_urls urls ≡ Some keys → AreKeys urls keys
+keys_say [] keys is = subst (AreKeys []) (same_some is) tt
+keys_say (url ∷ urls) keys is =
+    let first = found_first (key_of_url url) (λ key. option_map (λ more. key ∷ more) (keys_of_urls urls)) keys is in
+    let rest = found_map (λ more. first.0 ∷ more) (keys_of_urls urls) keys first.2 in
+    let target = found_map (λ t. key_of t ignored.None) (url_target url) first.0 first.1 in
+    subst (AreKeys (url ∷ urls)) rest.2 ((target.0, url_says url target.0 target.1, sym target.2), keys_say urls rest.0 rest.1)
+
+says_keys : (urls : List (List ℕ)) (keys : List KeyParts) → AreKeys urls keys → keys_of_urls urls ≡ Some keys
+says_keys [] [] is = refl
+says_keys [] (key ∷ keys) is = absurd is
+says_keys (url ∷ urls) [] is = absurd is
+says_keys (url ∷ urls) (key ∷ keys) is =
+    found_then (key_of_url url) _ key _ (ap (option_map (λ t. key_of t ignored.None)) (says_url url is.0.0 is.0.1) ∙ ap Some (sym is.0.2))
+    (ap (option_map (λ more. key ∷ more)) (says_keys urls keys is.1))
 
 protocol_says : (text : List ℕ) (found : Protocol) → protocol_of text ≡ Some found → IsProtocol text found
 unfolding protocol_of
@@ -182,14 +224,14 @@ place_says address network country place is =
     let asn = found_first (optional asn_of network) _ place ip.2 in
     let letters = found_first (optional country_of country) _ place asn.2 in
     let same : record { ip = ip.0; asn = asn.0; country = letters.0 } ≡ place = same_some letters.2 in
-    subst (IsPlace address network country) same (record { ip = ip.1; asn = optional_says asn_of network asn.0 asn.1; letters = optional_says country_of country letters.0 letters.1 })
+    subst (IsPlace address network country) same (record { ip = address_from address ip.0 ip.1; asn = network_from_text network asn.0 asn.1; letters = known_country_from_text country letters.0 letters.1 })
 
 says_place : (address network country : List ℕ) (place : Place) → IsPlace address network country place → place_at address network country ≡ Some place
 unfolding place_at
 says_place address network country place is =
-    found_then (ip_of address) _ place.ip _ is.ip
-    (found_then (optional asn_of network) _ place.asn _ (says_optional asn_of network place.asn is.asn)
-    (found_then (optional country_of country) _ place.country _ (says_optional country_of country place.country is.letters) refl))
+    found_then (ip_of address) _ place.ip _ (address_is address place.ip is.ip)
+    (found_then (optional asn_of network) _ place.asn _ (network_is network place.asn is.asn)
+    (found_then (optional country_of country) _ place.country _ (known_country_is country place.country is.letters) refl))
 
 asked_says : (method protocol url : List ℕ) (asked : Asked) → asked_of method protocol url ≡ Some asked → IsAsked method protocol url asked
 unfolding asked_of
@@ -198,14 +240,14 @@ asked_says method protocol url asked is =
     let p = found_first (protocol_of protocol) _ asked m.1 in
     let t = found_first (url_target url) _ asked p.2 in
     let same : record { method = method; protocol = p.0; target = t.0 } ≡ asked = same_some t.2 in
-    subst (IsAsked method protocol url) same (record { token = m.0; same = refl; spoken = protocol_says protocol p.0 p.1; target = t.1 })
+    subst (IsAsked method protocol url) same (record { token = m.0; same = refl; spoken = protocol_says protocol p.0 p.1; target = url_says url t.0 t.1 })
 
 says_asked : (method protocol url : List ℕ) (asked : Asked) → IsAsked method protocol url asked → asked_of method protocol url ≡ Some asked
 unfolding asked_of
 says_asked method protocol url asked is =
     cond-true _ _ _ is.token
     ∙ found_then (protocol_of protocol) _ asked.protocol _ (says_protocol protocol asked.protocol is.spoken)
-    (found_then (url_target url) _ asked.target _ is.target (ap (λ (m : List ℕ). Some (record { method = m; protocol = asked.protocol; target = asked.target })) (sym is.same)))
+    (found_then (url_target url) _ asked.target _ (says_url url asked.target is.target) (ap (λ (m : List ℕ). Some (record { method = m; protocol = asked.protocol; target = asked.target })) (sym is.same)))
 
 -- ---- words in a row
 
@@ -229,7 +271,7 @@ meta_says moment text word behind said cut same is =
     let number = found_first (parts_at SPACE behind) _ said is in
     let refresh = found_first (number_of number.0.0) _ said number.2 in
     let urls = found_first (parts_at SPACE number.0.1) _ said refresh.2 in
-    let joined = found_if (are_urls urls.0.0) _ said urls.2 in
+    let joined = found_map (λ keys. refreshed refresh.0 moment keys (host_index_of_text urls.0.1)) (keys_of urls.0.0) said urls.2 in
     let n = word_says behind number.0.0 number.0.1 number.1 in
     let u = word_says number.0.1 urls.0.0 urls.0.1 urls.1 in
     record {
@@ -237,10 +279,11 @@ meta_says moment text word behind said cut same is =
       urls = urls.0.0;
       json = urls.0.1;
       refresh = refresh.0;
+      keys = joined.0;
       words = (behind, first.0, first.1, (number.0.1, n.0, n.1, (urls.0.1, u.0, u.1, refl)));
       numbered = number_says number.0.0 refresh.0 refresh.1;
-      joined = joined.0;
-      call = same_some (sym joined.1);
+      joined = keys_say (parts_of BAR urls.0.0) joined.0 joined.1;
+      call = sym joined.2;
     }
 
 says_meta : (moment : ℕ) (text : List ℕ) (said : Noted) → SaysMeta moment text said → (behind : List ℕ) × (text ≡ codes "meta" ++ SPACE ∷ behind) × (meta_of moment behind ≡ Some said)
@@ -254,7 +297,8 @@ says_meta moment text said is =
       found_then (parts_at SPACE first.0) _ (is.number, number.0) _ (says_word first.0 is.number number.0 number.1 number.2)
           (found_then (number_of is.number) _ is.refresh _ (says_number is.number is.refresh is.numbered)
           (found_then (parts_at SPACE number.0) _ (is.urls, urls.0) _ (says_word number.0 is.urls urls.0 urls.1 urls.2)
-          (cond-true _ _ _ is.joined ∙ ap (λ json. Some (refreshed is.refresh moment (host_index_of_text json))) urls.3 ∙ ap Some (sym is.call)))),
+          (ap (option_map (λ keys. refreshed is.refresh moment keys (host_index_of_text urls.0))) (says_keys (parts_of BAR is.urls) is.keys is.joined)
+          ∙ ap (λ json. Some (refreshed is.refresh moment is.keys (host_index_of_text json))) urls.3 ∙ ap Some (sym is.call)))),
     )
 
 said_plainly : (event read : Event) (said : Noted) → plain event ≡ said → read ≡ event → said ≡ plain read

@@ -6,7 +6,7 @@ use Rattle.std.specs.declared.option.Option.{Option}
 use Rattle.std.proofs.lemmas.Bool.{cases_Bool, cond-true, cond-false, and_parts, and_from, and_right, both_ways, not-true, not_from_false, eqb-true, eq-eqb, ne_eqb, ltb-false, or_left, or_right, or_cases}
 use Rattle.std.proofs.lemmas.List.Sums.{fold-append}
 use Rattle.cdni_base.specs.Limits.{Bounds}
-use Rattle.metadata_objects.specs.Tree.{Index}
+use Rattle.metadata_objects.specs.Tree.{TreeData}
 use Rattle.http_node.specs.Call.{RefreshBegin, RefreshEnd, Admit}
 use Rattle.http_node.specs.History.{Entry, History, Installed, World, nothing, is_open, without, begin_reply, after_begin, next_due, newer_than, newer, installed_reply, begun_at, end_reply, after_installed, after_end, judged_reply, after_admit, reply_in, after, world_of, reply_to, installed_refresh, begun_delivery, begun_refresh, IsOpen, ends, HasBegun}
 use Rattle.http_node.specs.declared.admission.Judged.{Judged}
@@ -190,26 +190,26 @@ record Ended (w w' : World) (refresh pass : ℕ) (r : Reply) : Type 0 where
   plain : Plain w w' r
   refreshes : w'.refreshes ≡ without refresh pass w.refreshes
 
-installed_cases : (w : World) (pass refresh : ℕ) (index : Index) (moment : ℕ) (found : Option ℕ) → found ≡ newer w refresh
-    → Ended w (after_installed (record w { refreshes = without refresh pass w.refreshes }) refresh index moment (installed_reply w found)) refresh pass (installed_reply w found)
-installed_cases w pass refresh index moment (Some later) is = record {
+installed_cases : (w : World) (pass refresh : ℕ) (tree : TreeData) (moment : ℕ) (found : Option ℕ) → found ≡ newer w refresh
+    → Ended w (after_installed (record w { refreshes = without refresh pass w.refreshes }) refresh tree moment (installed_reply w found)) refresh pass (installed_reply w found)
+installed_cases w pass refresh tree moment (Some later) is = record {
   plain = record { counts = record { installed = omega arith; delivered = inl (refl, refl) }; refreshed = refl; no_refresh = refl };
   refreshes = refl;
 }
-installed_cases w pass refresh index moment None is = record {
+installed_cases w pass refresh tree moment None is = record {
   plain = record { counts = record { installed = newer_none refresh w.installed (sym is); delivered = inl (refl, refl) }; refreshed = refl; no_refresh = refl };
   refreshes = refl;
 }
 
-end_cases : (w : World) (pass refresh : ℕ) (index : Option Index) (P : World → Reply → Type 0) → ((r : Reply) → begun_at w refresh pass ≡ None → Plain w w r → P w r)
+end_cases : (w : World) (pass refresh : ℕ) (tree : Option TreeData) (P : World → Reply → Type 0) → ((r : Reply) → begun_at w refresh pass ≡ None → Plain w w r → P w r)
     → ((w' : World) (r : Reply) → Ended w w' refresh pass r → P w' r)
-    → (found : Option ℕ) → found ≡ begun_at w refresh pass → P (after_end w pass refresh index found) (end_reply w refresh index found)
-end_cases w pass refresh index P same end None is =
+    → (found : Option ℕ) → found ≡ begun_at w refresh pass → P (after_end w pass refresh tree found) (end_reply w refresh tree found)
+end_cases w pass refresh tree P same end None is =
     same (reply.NotOpen refresh) (sym is) (record { counts = nothing_counted w _ refl; refreshed = refl; no_refresh = refl })
 end_cases w pass refresh None P same end (Some moment) is =
     end _ reply.Failed (record { plain = record { counts = record { installed = omega arith; delivered = inl (refl, refl) }; refreshed = refl; no_refresh = refl }; refreshes = refl })
-end_cases w pass refresh (Some index) P same end (Some moment) is =
-    end _ _ (installed_cases w pass refresh index moment (newer w refresh) refl)
+end_cases w pass refresh (Some tree) P same end (Some moment) is =
+    end _ _ (installed_cases w pass refresh tree moment (newer w refresh) refl)
 
 -- a request changes no refresh
 record Admits (w w' : World) (r : Reply) : Type 0 where
@@ -240,7 +240,7 @@ admit_cases w false false j = judged_cases w j
 counts_of : (w : World) (e : Entry) → Counts w (after w e) (reply_in w e)
 unfolding after reply_in began
 counts_of w (pass, RefreshBegin moment) = begin_cases w pass moment (Counts w) (λ r same. same.counts) (record { installed = omega arith; delivered = inl (refl, refl) }) (next_due w moment)
-counts_of w (pass, RefreshEnd refresh index moment) = end_cases w pass refresh index (Counts w) (λ r none same. same.counts) (λ w' r end. end.plain.counts) (begun_at w refresh pass) refl
+counts_of w (pass, RefreshEnd refresh tree moment) = end_cases w pass refresh tree (Counts w) (λ r none same. same.counts) (λ w' r end. end.plain.counts) (begun_at w refresh pass) refl
 counts_of w (pass, Admit asked place moment) = (admit_cases w _ _ _).plain.counts
 
 -- the number of a refresh that begins
@@ -250,8 +250,8 @@ record Begins (w w' : World) (r : Reply) : Type 0 where
 begins_of : (w : World) (e : Entry) → Begins w (after w e) (reply_in w e)
 unfolding after reply_in began
 begins_of w (pass, RefreshBegin moment) = begin_cases w pass moment (Begins w) (λ r same. record { refreshed = inl (refl, same.no_refresh) }) (record { refreshed = inr (refl, refl) }) (next_due w moment)
-begins_of w (pass, RefreshEnd refresh index moment) =
-    end_cases w pass refresh index (Begins w) (λ r none same. record { refreshed = inl (refl, same.no_refresh) }) (λ w' r end. record { refreshed = inl (end.plain.refreshed, end.plain.no_refresh) }) (begun_at w refresh pass) refl
+begins_of w (pass, RefreshEnd refresh tree moment) =
+    end_cases w pass refresh tree (Begins w) (λ r none same. record { refreshed = inl (refl, same.no_refresh) }) (λ w' r end. record { refreshed = inl (end.plain.refreshed, end.plain.no_refresh) }) (begun_at w refresh pass) refl
 begins_of w (pass, Admit asked place moment) = let a = (admit_cases w _ _ _).plain in record { refreshed = inl (a.refreshed, a.no_refresh) }
 
 numbered_same : (w w' : World) → w'.refreshes ≡ w.refreshes → w'.refreshed ≡ w.refreshed → Numbered w → Numbered w'
@@ -270,8 +270,8 @@ numbered_after : (w : World) (e : Entry) → Numbered w → Numbered (after w e)
 unfolding after reply_in began
 numbered_after w (pass, RefreshBegin moment) is =
     begin_cases w pass moment (λ w' r. Numbered w') (λ r same. is) (numbered_begun w (record { refresh = w.refreshed + 1; pass = pass; moment = moment }) (w.opened + 1) is refl) (next_due w moment)
-numbered_after w (pass, RefreshEnd refresh index moment) is =
-    end_cases w pass refresh index (λ w' r. Numbered w') (λ r none same. is) (λ w' r end. numbered_ended w w' refresh pass end.refreshes end.plain.refreshed is) (begun_at w refresh pass) refl
+numbered_after w (pass, RefreshEnd refresh tree moment) is =
+    end_cases w pass refresh tree (λ w' r. Numbered w') (λ r none same. is) (λ w' r end. numbered_ended w w' refresh pass end.refreshes end.plain.refreshed is) (begun_at w refresh pass) refl
 numbered_after w (pass, Admit asked place moment) is = let a = admit_cases w _ _ _ in numbered_same w _ a.refreshes a.plain.refreshed is
 
 module _ (n by : ℕ) where
@@ -280,8 +280,8 @@ module _ (n by : ℕ) where
   unfolding after reply_in began
   stays_open w (pass, RefreshBegin moment) is other =
       begin_cases w pass moment (λ w' r. IsOpen w' n by) (λ r same. is) (pushed_open n by w.refreshes (record { refresh = w.refreshed + 1; pass = pass; moment = moment }) ∙ or_left _ _ is) (next_due w moment)
-  stays_open w (pass, RefreshEnd refresh index moment) is other =
-      end_cases w pass refresh index (λ w' r. IsOpen w' n by) (λ r none same. is)
+  stays_open w (pass, RefreshEnd refresh tree moment) is other =
+      end_cases w pass refresh tree (λ w' r. IsOpen w' n by) (λ r none same. is)
       (λ w' r end. ap (list_any (is_open n by)) end.refreshes ∙ others_stay n by refresh pass w.refreshes other is) (begun_at w refresh pass) refl
   stays_open w (pass, Admit asked place moment) is other = ap (list_any (is_open n by)) (admit_cases w _ _ _).refreshes ∙ is
 
@@ -308,24 +308,24 @@ module _ (n by : ℕ) where
             inr (moment, ap {B = Entry} (λ k. (k, RefreshBegin moment)) (eqb-true pass by p.1), ap (λ k. reply.Due k) (eqb-true (w.refreshed + 1) n p.0))
       ])
       (next_due w moment) is
-  open_before w (pass, RefreshEnd refresh index moment) numbered is = inl (
-    end_cases w pass refresh index (λ w' r. IsOpen w' n by → IsOpen w n by) (λ r none same open_then. open_then)
+  open_before w (pass, RefreshEnd refresh tree moment) numbered is = inl (
+    end_cases w pass refresh tree (λ w' r. IsOpen w' n by → IsOpen w n by) (λ r none same open_then. open_then)
         (λ w' r end open_then. open_without n by refresh pass w.refreshes (sym (ap (list_any (is_open n by)) end.refreshes) ∙ open_then)) (begun_at w refresh pass) refl is,
     elim (cases_Bool ((refresh == n) && (pass == by))) [
-      | inl this ↦ absurd (both_ways _ (shut_then w pass refresh index numbered this) is)
+      | inl this ↦ absurd (both_ways _ (shut_then w pass refresh tree numbered this) is)
       | inr other ↦ other
     ],
   )
     where
-      shut_then : (w : World) (pass refresh : ℕ) (index : Option Index) → Numbered w → ((refresh == n) && (pass == by)) ≡ true
-          → list_any (is_open n by) (after_end w pass refresh index (begun_at w refresh pass)).refreshes ≡ false
-      shut_then w pass refresh index numbered this =
+      shut_then : (w : World) (pass refresh : ℕ) (tree : Option TreeData) → Numbered w → ((refresh == n) && (pass == by)) ≡ true
+          → list_any (is_open n by) (after_end w pass refresh tree (begun_at w refresh pass)).refreshes ≡ false
+      shut_then w pass refresh tree numbered this =
           let p = and_parts (refresh == n) (pass == by) this in
           let number = eqb-true refresh n p.0 in
           let own = eqb-true pass by p.1 in
-          subst (λ k. list_any (is_open k by) (after_end w pass refresh index (begun_at w refresh pass)).refreshes ≡ false) number
-          (subst (λ k. list_any (is_open refresh k) (after_end w pass refresh index (begun_at w refresh pass)).refreshes ≡ false) own
-          (end_cases w pass refresh index (λ w' r. list_any (is_open refresh pass) w'.refreshes ≡ false)
+          subst (λ k. list_any (is_open k by) (after_end w pass refresh tree (begun_at w refresh pass)).refreshes ≡ false) number
+          (subst (λ k. list_any (is_open refresh k) (after_end w pass refresh tree (begun_at w refresh pass)).refreshes ≡ false) own
+          (end_cases w pass refresh tree (λ w' r. list_any (is_open refresh pass) w'.refreshes ≡ false)
           (λ r none same. found_nowhere refresh pass w.refreshes (λ b. b.moment) none)
           (λ w' r end. ap (list_any (is_open refresh pass)) end.refreshes ∙ ended_shut refresh pass w.refreshes (numbered.once refresh)) (begun_at w refresh pass) refl))
   open_before w (pass, Admit asked place moment) numbered is = inl (sym (ap (list_any (is_open n by)) (admit_cases w _ _ _).refreshes) ∙ is, refl)
@@ -442,7 +442,7 @@ module _ (n by : ℕ) where
 
   other_pass : (e : Entry) → (e.0 ≡ by → ⊥) → ends n by e ≡ false
   other_pass (pass, RefreshBegin moment) other = refl
-  other_pass (pass, RefreshEnd refresh index moment) other = and_right (refresh == n) (pass == by) (ne_eqb pass by other)
+  other_pass (pass, RefreshEnd refresh tree moment) other = and_right (refresh == n) (pass == by) (ne_eqb pass by other)
   other_pass (pass, Admit asked place moment) other = refl
 
   pub other_ends_nothing : (limits : Bounds) (h : History) (e : Entry) → (e.0 ≡ by → ⊥) → IsOpen (world_of limits h) n by → IsOpen (world_of limits (h ++ e ∷ [])) n by

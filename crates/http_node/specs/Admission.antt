@@ -2,11 +2,11 @@
 use Rattle.std.specs.Prelude.{ℕ, Bool, List, codes, bytes_eq, None, Some, ◌||◌, if◌then◌else◌}
 use Rattle.std.specs.declared.option.Option.{Option}
 use Rattle.cdni_base.specs.declared.rule.Rule.TheVariants as rule
-use Rattle.cdni_base.specs.declared.target.Asked.{Asked}
+use Rattle.cdni_base.specs.declared.asked.Asked.{Asked}
 use Rattle.inheritance.specs.Chain.{chain}
 use Rattle.inheritance.specs.Effective.{effective}
 use Rattle.location_acl.specs.declared.footprint.Place.{Place}
-use Rattle.metadata_objects.specs.Tree.{Index}
+use Rattle.metadata_objects.specs.LevelData.{Index}
 use Rattle.metadata_objects.specs.declared.generic.Generic.{Generic}
 use Rattle.verdict.specs.Plan.{plan_of}
 use Rattle.verdict.specs.Verdict.{verdict_of}

@@ -1,23 +1,26 @@
 -- The grammar of a script's lines.
-use Rattle.std.specs.Prelude.{◌≡◌, ◌≢◌, ℕ, ◌^◌, ◌<◌, Bool, false, not, IsTrue, List, [], ◌∷◌, ◌++◌, codes, bytes_eq, decimal, length, None, Some, Ok, Err, ◌⊎◌, ◌==◌, ◌&&◌, ◌||◌, nat_lt, nat_le, if◌then◌else◌}
+use Rattle.std.specs.Prelude.{◌≡◌, ℕ, ◌^◌, ◌<◌, Bool, false, not, IsTrue, List, [], ◌∷◌, ◌++◌, codes, bytes_eq, decimal, length, None, Some, Ok, Err, ◌⊎◌, ◌==◌, ◌&&◌, ◌||◌, nat_lt, nat_le, if◌then◌else◌}
 use Rattle.std.specs.Char.{is_ascii_alphanumeric}
 use Rattle.std.specs.List.{list_all, list_any, slice_split}
-use Rattle.std.specs.Option.{option_map, is_some}
+use Rattle.std.specs.Option.{option_map}
 use Rattle.std.specs.Result.{result_ok}
 use Rattle.std.specs.declared.option.Option.{Option}
 use Rattle.listing.specs.Number.{number_of}
 use Rattle.listing.specs.Word.{◌>>=◌, parts_at}
-use Rattle.cdni_base.specs.Target.{target_of}
-use Rattle.cdni_base.specs.declared.target.Asked.{Asked}
-use Rattle.cdni_base.specs.declared.target.Protocol.{Protocol}
-use Rattle.cdni_base.specs.declared.target.Protocol.TheVariants.{Http, Https}
-use Rattle.cdni_base.specs.declared.target.Target.{Target}
-use Rattle.location_acl.specs.Footprint.{asn_of, country_of}
-use Rattle.location_acl.specs.Reading.{ip_of}
+use Rattle.targets.specs.Grammar.{IsTarget}
+use Rattle.targets.specs.Target.{target_of}
+use Rattle.cdni_base.specs.Key.{KeyParts, key_of}
+use Rattle.cdni_base.specs.declared.asked.Asked.{Asked}
+use Rattle.cdni_base.specs.declared.key.Ignored.TheVariants as ignored
+use Rattle.targets.specs.declared.target.Protocol.{Protocol}
+use Rattle.targets.specs.declared.target.Protocol.TheVariants.{Http, Https}
+use Rattle.targets.specs.declared.target.Target.{Target}
+use Rattle.location_acl.specs.Footprint.{asn_of, country_of, optional, IsNetwork, IsCountry}
+use Rattle.location_acl.specs.Ip.{IsAddress, ip_of}
 use Rattle.location_acl.specs.declared.footprint.Place.{Place}
 use Rattle.metadata_objects.specs.Host.{host_index_of_text}
 use Rattle.metadata_objects.specs.Reading.{Reading}
-use Rattle.metadata_objects.specs.Tree.{Index}
+use Rattle.metadata_objects.specs.LevelData.{Index}
 use Rattle.http_node.specs.Call.{Event, RefreshBegin, RefreshEnd, Admit, Noted}
 use Rattle.http_node.specs.History.{Entry}
 use Rattle.http_node.specs.declared.grammar.TheConstants.{SPACE, BAR, LONGEST_METHOD}
@@ -32,12 +35,17 @@ number_below bound text = number_of text >>= λ n. if nat_lt n bound then Some n
 abbrev pub url_target : List ℕ → Option Target
 url_target text = result_ok (target_of text None false)
 
-abbrev pub is_url : List ℕ → Bool
-is_url text = is_some (url_target text)
+-- the key of the target of a URL
+abbrev pub key_of_url : List ℕ → Option KeyParts
+key_of_url url = option_map (λ target. key_of target ignored.None) (url_target url)
 
--- URLs joined by bars
-abbrev pub are_urls : List ℕ → Bool
-are_urls text = list_all is_url (slice_split (λ byte. byte == BAR) text)
+abbrev pub keys_of_urls : List (List ℕ) → Option (List KeyParts)
+keys_of_urls [] = Some []
+keys_of_urls (url ∷ urls) = key_of_url url >>= λ key. option_map (λ keys. key ∷ keys) (keys_of_urls urls)
+
+-- the keys of URLs joined by bars
+abbrev pub keys_of : List ℕ → Option (List KeyParts)
+keys_of text = keys_of_urls (slice_split (λ byte. byte == BAR) text)
 
 -- ---- the words of `get`
 
@@ -51,10 +59,6 @@ is_method text = nat_lt 0 (length text) && nat_le (length text) LONGEST_METHOD &
 
 unfoldable pub protocol_of : List ℕ → Option Protocol
 protocol_of text = if bytes_eq text (codes "http/1.1") then Some Http else (if bytes_eq text (codes "https/1.1") then Some Https else None)
-
--- `-` for none, or what the text stands for
-abbrev pub optional : {A : Type 0} → (List ℕ → Option A) → List ℕ → Option (Option A)
-optional read text = if bytes_eq text (codes "-") then Some None else option_map Some (read text)
 
 -- the place of an address, of `-` or `as` and a number, and of `-` or two lower-case letters
 unfoldable pub place_at : List ℕ → List ℕ → List ℕ → Option Place
@@ -71,15 +75,15 @@ get_of moment text = parts_at SPACE text >>= λ method. parts_at SPACE method.1 
 
 -- ---- the other lines
 
--- the end of a refresh with the metadata that was read, or without, and then the fault is noted
-abbrev pub refreshed : ℕ → ℕ → Reading Index → Noted
-refreshed refresh moment (Ok index) = record { event = RefreshEnd refresh (Some index) moment; note = None }
-refreshed refresh moment (Err fault) = record { event = RefreshEnd refresh None moment; note = Some fault }
+-- the end of a refresh with the metadata that was read and the keys of its documents, or without, and then the fault is noted
+abbrev pub refreshed : ℕ → ℕ → List KeyParts → Reading Index → Noted
+refreshed refresh moment keys (Ok index) = record { event = RefreshEnd refresh (Some (record { index = index; resources = keys })) moment; note = None }
+refreshed refresh moment keys (Err fault) = record { event = RefreshEnd refresh None moment; note = Some fault }
 
 -- R URLS JSON
 unfoldable pub meta_of : ℕ → List ℕ → Option Noted
 meta_of moment text = parts_at SPACE text >>= λ number. number_of number.0 >>= λ refresh. parts_at SPACE number.1 >>= λ urls.
-    if are_urls urls.0 then Some (refreshed refresh moment (host_index_of_text urls.1)) else None
+    option_map (λ keys. refreshed refresh moment keys (host_index_of_text urls.1)) (keys_of urls.0)
 
 -- a call of which nothing is noted
 abbrev pub plain : Event → Noted
@@ -119,27 +123,29 @@ IsWords (word ∷ words) rest text = (behind : List ℕ) × (text ≡ word ++ SP
 abbrev pub IsNumber : List ℕ → ℕ → Type 0
 IsNumber text n = (text ≡ decimal n) × (n < 2 ^ 64)
 
--- `-` for none, or what another text stands for
-abbrev pub IsOptional : {A : Type 0} → (List ℕ → Option A) → List ℕ → Option A → Type 0
-IsOptional read text None = text ≡ codes "-"
-IsOptional read text (Some a) = (text ≢ codes "-") × (read text ≡ Some a)
-
 abbrev pub IsProtocol : List ℕ → Protocol → Type 0
 IsProtocol text Http = text ≡ codes "http/1.1"
 IsProtocol text Https = text ≡ codes "https/1.1"
 
 -- the client's address, network and country
 pub record IsPlace (address network country : List ℕ) (place : Place) : Type 0 where
-  pub ip : ip_of address ≡ Some place.ip
-  pub asn : IsOptional asn_of network place.asn
-  pub letters : IsOptional country_of country place.country
+  pub ip : IsAddress address place.ip
+  pub asn : IsNetwork network place.asn
+  pub letters : IsCountry country place.country
 
 -- a request with a token of at most 127 bytes as its method, for an absolute URL
 pub record IsAsked (method protocol url : List ℕ) (asked : Asked) : Type 0 where
   pub token : IsTrue (is_method method)
   pub same : asked.method ≡ method
   pub spoken : IsProtocol protocol asked.protocol
-  pub target : url_target url ≡ Some asked.target
+  pub target : IsTarget url None false asked.target
+
+-- each of these is a URL, and its key stands at the same place, with the whole query
+abbrev pub AreKeys : List (List ℕ) → List KeyParts → Type 0
+AreKeys [] [] = Unit {0}
+AreKeys [] (key ∷ keys) = ⊥
+AreKeys (url ∷ urls) [] = ⊥
+AreKeys (url ∷ urls) (key ∷ keys) = ((target : Target) × IsTarget url None false target × (key ≡ key_of target ignored.None)) × AreKeys urls keys
 
 -- refresh
 abbrev pub SaysRefresh : ℕ → List ℕ → Noted → Type 0
@@ -151,10 +157,11 @@ pub record SaysMeta (moment : ℕ) (text : List ℕ) (said : Noted) : Type 0 whe
   pub urls : List ℕ
   pub json : List ℕ
   pub refresh : ℕ
+  pub keys : List KeyParts
   pub words : IsWords (codes "meta" ∷ number ∷ urls ∷ []) json text
   pub numbered : IsNumber number refresh
-  pub joined : IsTrue (are_urls urls)
-  pub call : said ≡ refreshed refresh moment (host_index_of_text json)
+  pub joined : AreKeys (slice_split (λ byte. byte == BAR) urls) keys
+  pub call : said ≡ refreshed refresh moment keys (host_index_of_text json)
 
 -- get METHOD PROTOCOL IP ASN CC URL
 pub record SaysGet (moment : ℕ) (text : List ℕ) (said : Noted) : Type 0 where

@@ -1,7 +1,7 @@
 //! Whether a request is admitted: the plan of its delivery, or the first rule that forbids it.
 
 ghost use Rattle.std.specs.Prelude.{◌≡◌, IfOk, option_map};
-ghost use Rattle.metadata_objects.specs.Tree.{index_view};
+ghost use Rattle.metadata_objects.specs.LevelData.{index_view};
 ghost use Rattle.http_node.specs.Admission.{judged_chain, is_served, judged};
 ghost use Rattle.inheritance.specs.Chain.{chain};
 

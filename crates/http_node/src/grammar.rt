@@ -2,17 +2,16 @@
 
 ghost use Rattle.std.specs.Prelude.{◌≡◌, ◌<◌, IfOk, IfSome, option_map};
 ghost use Rattle.std.specs.List.{list_all};
-ghost use Rattle.location_acl.specs.Footprint.{asn_of, country_of};
 ghost use Rattle.metadata_objects.specs.Host.{host_index_of_text};
 ghost use Rattle.http_node.specs.Call.{event_of, noted_of};
-ghost use Rattle.http_node.specs.Grammar.{number_below, url_target, is_url, are_urls, is_token_byte, is_method, protocol_of, optional, place_at, asked_of, get_of, refreshed, meta_of, plain, call_of, line_of, ReadsAs};
+ghost use Rattle.http_node.specs.Grammar.{number_below, url_target, key_of_url, keys_of, is_token_byte, is_method, protocol_of, place_at, asked_of, get_of, refreshed, meta_of, plain, call_of, line_of, ReadsAs};
 
 use crate::call::{Call, NotedCall, ScriptLine};
-use cdni_base::{Asked, Protocol, Target, TargetFault, Text};
+use cdni_base::{Asked, Ignored, Key, Protocol, Target, TargetFault, Text, url_key};
 use edge_base::Moment;
-use listing::{cut_at, read_decimal};
-use location_acl::{Ip, Place, asn_of, country_of};
-use metadata_objects::{HostIndex, MetaFault};
+use listing::{Listing, cut_at, read_decimal};
+use location_acl::{Ip, Place, read_country, read_network};
+use metadata_objects::{HostIndex, KeyList, MetaFault, Tree};
 use std::alloc::{AllocError, Global};
 
 /// The byte between the words of a line.
@@ -109,30 +108,37 @@ fn read_meta(alloc: Global, moment: Moment, text: &[u8]) -> Result<Option<NotedC
     let Some((urls, json)) = cut_at(SPACE, rest) else {
         return Ok(None);
     };
-    if !are_urls(alloc, urls)? {
+    let Some(keys) = read_keys(alloc, urls)? else {
         return Ok(None);
-    }
-    Ok(Some(refreshed(alloc, refresh, moment, json)?))
+    };
+    Ok(Some(refreshed(alloc, refresh, moment, keys, json)?))
 }
 
-// the end of a refresh with the metadata of this text, or without, and then the fault is noted
+// the end of a refresh with the metadata of this text and these keys, or without, and then the fault is noted
 fn refreshed(
     alloc: Global,
     refresh: u64,
     moment: Moment,
+    keys: KeyList,
     json: &[u8],
 ) -> Result<NotedCall, AllocError>
-    ensures { IfOk result (λ noted. noted_of noted ≡ refreshed refresh moment (host_index_of_text json.now)) }
+    ensures { IfOk result (λ noted. noted_of noted ≡ refreshed refresh moment keys (host_index_of_text json.now)) }
 {
-    let (index, note) = match HostIndex::read(alloc, json) {
-        Ok(index) => (Some(index), None),
+    let (tree, note) = match HostIndex::read(alloc, json) {
+        Ok(index) => (
+            Some(Tree {
+                index,
+                resources: keys,
+            }),
+            None,
+        ),
         Err(MetaFault::Memory) => return Err(AllocError),
         Err(fault) => (None, Some(fault)),
     };
     Ok(NotedCall {
         call: Call::RefreshEnd {
             refresh,
-            index,
+            tree,
             moment,
         },
         note,
@@ -183,32 +189,6 @@ fn read_place(address: &[u8], network: &[u8], country: &[u8]) -> Option<Place>
     let asn = read_network(network)?;
     let country = read_country(country)?;
     Some(Place { ip, asn, country })
-}
-
-// `-` for none, or `as` and a number
-fn read_network(text: &[u8]) -> Option<Option<u32>>
-    ensures { result ≡ optional asn_of text.now }
-{
-    if text == b"-".as_slice() {
-        return Some(None);
-    }
-    match asn_of(text) {
-        Some(number) => Some(Some(number)),
-        None => None,
-    }
-}
-
-// `-` for none, or two lower-case letters
-fn read_country(text: &[u8]) -> Option<Option<(u8, u8)>>
-    ensures { result ≡ optional country_of text.now }
-{
-    if text == b"-".as_slice() {
-        return Some(None);
-    }
-    match country_of(text) {
-        Some(letters) => Some(Some(letters)),
-        None => None,
-    }
 }
 
 #[tactic(auto, unfolding(crate::specs::Grammar::asked_of))]
@@ -269,24 +249,34 @@ fn read_protocol(text: &[u8]) -> Option<Protocol>
     }
 }
 
-// whether these are URLs joined by bars
-fn are_urls(alloc: Global, text: &[u8]) -> Result<bool, AllocError>
-    ensures { IfOk result (λ answer. answer ≡ are_urls text.now) }
+// the keys of URLs joined by bars
+fn read_keys(alloc: Global, text: &[u8]) -> Result<Option<KeyList>, AllocError>
+    ensures { IfOk result (λ found. found ≡ keys_of text.now) }
 {
+    let mut keys = Listing::new(alloc);
     let mut rest = text;
     'urls: while let Some((url, after)) = cut_at(BAR, rest) {
-        if !is_url(alloc, url)? {
-            return Ok(false);
-        }
+        let Some(key) = read_key(alloc, url)? else {
+            return Ok(None);
+        };
+        keys.push(key)?;
         rest = after;
     }
-    is_url(alloc, rest)
+    let Some(key) = read_key(alloc, rest)? else {
+        return Ok(None);
+    };
+    keys.push(key)?;
+    Ok(Some(keys))
 }
 
-fn is_url(alloc: Global, text: &[u8]) -> Result<bool, AllocError>
-    ensures { IfOk result (λ answer. answer ≡ is_url text.now) }
+// the key of a URL
+fn read_key(alloc: Global, url: &[u8]) -> Result<Option<Key>, AllocError>
+    ensures { IfOk result (λ found. found ≡ key_of_url url.now) }
 {
-    Ok(read_target(alloc, text)?.is_some())
+    match read_target(alloc, url)? {
+        Some(target) => Ok(Some(url_key(alloc, &target, &Ignored::None)?)),
+        None => Ok(None),
+    }
 }
 
 // the target of an absolute URL

@@ -2,7 +2,7 @@
 
 ghost use Rattle.std.specs.Prelude.{◌≡◌, ◌+◌, ◌<◌, ◌≤◌, length, IfOk, OnOk, OnErr, OnSome, MatchOption, None, slice_get, option_map};
 ghost use Rattle.std.specs.List.{find, remove};
-ghost use Rattle.metadata_objects.specs.Tree.{index_view};
+ghost use Rattle.metadata_objects.specs.Tree.{tree_view};
 ghost use Rattle.http_node.specs.Call.{event_of};
 ghost use Rattle.http_node.specs.History.{is_open, without};
 
@@ -11,13 +11,13 @@ use crate::call::{Call, OpenRefresh, Reply};
 use cdni_base::{Asked, Limits};
 use edge_base::Moment;
 use location_acl::Place;
-use metadata_objects::HostIndex;
+use metadata_objects::Tree;
 use std::alloc::{AllocError, Global};
 use std::marker::Model;
 
 #[derive(Drop)]
 pub(crate) struct Installed {
-    index: HostIndex,
+    tree: Tree,
     refresh: u64,
     moment: Moment,
 }
@@ -37,23 +37,23 @@ pub struct Core {
 
 impl Model for Core {
     ghost use Rattle.std.specs.Prelude.{◌+◌, ◌≤◌, length, option_map};
-    ghost use Rattle.metadata_objects.specs.Tree.{index_view};
+    ghost use Rattle.metadata_objects.specs.Tree.{tree_view};
     ghost use Rattle.http_node.specs.History.{World};
 
     ghost Value = { World };
 
     ghost use Rattle.std.specs.Coded.{codes, coded_list, coded×, coded_ℕ};
-    ghost use Rattle.metadata_objects.specs.Coding.{tree_code};
+    ghost use Rattle.metadata_objects.specs.Coding.{level_code};
     ghost use Rattle.metadata_objects.specs.contracts.generic.Generic as generic;
     ghost use Rattle.pattern_match.specs.contracts.pattern.Pattern as pattern;
 
-    ghost coded = { Prim.hlevel (codes, tree_code (coded_list (coded× pattern.the_row.coded (coded× (coded_list generic.the_row.coded) coded_ℕ)))) };
+    ghost coded = { Prim.hlevel (codes, level_code (coded_list (coded× pattern.the_row.coded (coded× (coded_list generic.the_row.coded) coded_ℕ)))) };
 
     ghost view = { λ c. record {
       limits = c.limits;
       refreshed = c.refreshed;
       refreshes = c.refreshes.items;
-      installed = option_map (λ i. record { index = index_view i.index; refresh = i.refresh; moment = i.moment }) c.installed;
+      installed = option_map (λ i. record { tree = tree_view i.tree; refresh = i.refresh; moment = i.moment }) c.installed;
       generation = c.generation;
       delivered = c.delivered;
       fetched = c.fetched;
@@ -96,9 +96,9 @@ impl Core {
             Call::RefreshBegin { moment } => self.refresh_begin(pass, moment),
             Call::RefreshEnd {
                 refresh,
-                index,
+                tree,
                 moment: _,
-            } => Ok(self.refresh_end(pass, refresh, index)),
+            } => Ok(self.refresh_end(pass, refresh, tree)),
             Call::Admit {
                 asked,
                 place,
@@ -144,15 +144,15 @@ impl Core {
         }
     }
 
-    fn refresh_end(&mut self, pass: u32, refresh: u64, index: Option<HostIndex>) -> Reply
-        ensures reply { result ≡ end_reply self.old refresh (option_map index_view index) (begun_at self.old refresh pass) }
-        ensures after { self.new ≡ after_end self.old pass refresh (option_map index_view index) (begun_at self.old refresh pass) }
+    fn refresh_end(&mut self, pass: u32, refresh: u64, tree: Option<Tree>) -> Reply
+        ensures reply { result ≡ end_reply self.old refresh (option_map tree_view tree) (begun_at self.old refresh pass) }
+        ensures after { self.new ≡ after_end self.old pass refresh (option_map tree_view tree) (begun_at self.old refresh pass) }
     {
         let Some(moment) = self.end_open(pass, refresh) else {
             return Reply::NotOpen { number: refresh };
         };
-        match index {
-            Some(index) => self.install(refresh, index, moment),
+        match tree {
+            Some(tree) => self.install(refresh, tree, moment),
             None => Reply::Failed,
         }
     }
@@ -170,16 +170,16 @@ impl Core {
     }
 
     // installs the metadata of a refresh that began at this moment, where none of a later refresh is installed
-    fn install(&mut self, refresh: u64, index: HostIndex, moment: Moment) -> Reply
+    fn install(&mut self, refresh: u64, tree: Tree, moment: Moment) -> Reply
         requires { self.old.generation + length self.old.refreshes < self.old.refreshed }
         ensures reply { result ≡ installed_reply self.old (newer self.old refresh) }
-        ensures after { self.new ≡ after_installed self.old refresh (index_view index) moment result }
+        ensures after { self.new ≡ after_installed self.old refresh (tree_view tree) moment result }
     {
         if let Some(refresh) = self.newer(refresh) {
             return Reply::Older { refresh };
         }
         self.installed = Some(Installed {
-            index,
+            tree,
             refresh,
             moment,
         });
@@ -220,7 +220,9 @@ impl Core {
         }
         let answer = judge_request(
             alloc,
-            self.installed.as_ref().map(|installed| &installed.index),
+            self.installed
+                .as_ref()
+                .map(|installed| &installed.tree.index),
             asked,
             place,
             moment,

@@ -3,8 +3,8 @@ use Rattle.std.specs.Prelude.{ℕ, Bool, true, bytes_eq, List, [], ◌∷◌, No
 use Rattle.std.specs.List.{find}
 use Rattle.std.specs.Option.{option_map}
 use Rattle.std.specs.declared.option.Option.{Option}
-use Rattle.cdni_base.specs.declared.target.Target.{Target}
-use Rattle.metadata_objects.specs.Tree.{Tree, tree, Branches, no_branches, branch, Site, Index}
+use Rattle.targets.specs.declared.target.Target.{Target}
+use Rattle.metadata_objects.specs.LevelData.{LevelData, level_data, Branches, no_branches, branch, Site, Index}
 use Rattle.metadata_objects.specs.declared.generic.Generic.{Generic}
 use Rattle.pattern_match.specs.Matching.{is_match}
 
@@ -15,17 +15,17 @@ matches_port (Some own) port = own == port
 
 -- the host is that of the target, and so is the port
 abbrev pub matches_target : Target → Site → Bool
-matches_target target site = bytes_eq site.host.host.0 target.host.0 && matches_port site.host.port target.port
+matches_target target site = bytes_eq site.host.host target.host && matches_port site.host.port target.port
 
 -- what stands below the first pattern that matches the path
-abbrev pub first_match : List ℕ → Branches → Option Tree
+abbrev pub first_match : List ℕ → Branches → Option LevelData
 first_match path no_branches = None
 first_match path (branch pattern inner others) = if is_match pattern path then Some inner else first_match path others
 
 -- the array of a level, and those of the first PathMatch below it whose pattern matches the path, outermost first
 unfoldable mutual
-  pub arrays_at : List ℕ → Tree → List (List Generic)
-  arrays_at path (tree objects below) = objects ∷ arrays_below path below
+  pub arrays_at : List ℕ → LevelData → List (List Generic)
+  arrays_at path (level_data objects below) = objects ∷ arrays_below path below
 
   pub arrays_below : List ℕ → Branches → List (List Generic)
   arrays_below path no_branches = []
@@ -33,4 +33,4 @@ unfoldable mutual
 
 -- the arrays of the first HostMatch that matches, outermost first; none where no HostMatch does
 unfoldable pub chain : Index → Target → Option (List (List Generic))
-chain index target = option_map (λ site. arrays_at target.path site.tree) (find (matches_target target) index)
+chain index target = option_map (λ site. arrays_at target.path site.level) (find (matches_target target) index)

@@ -4,7 +4,7 @@ use Rattle.std.specs.List.{find}
 use Rattle.std.specs.Option.{option_map, option_and_then}
 use Rattle.std.specs.declared.option.Option.{Option}
 use Rattle.cdni_base.specs.declared.key.Ignored.{Ignored}
-use Rattle.cdni_base.specs.declared.target.SourceItem.{SourceItem}
+use Rattle.cdni_base.specs.declared.source_item.SourceItem.{SourceItem}
 use Rattle.location_acl.specs.declared.acl.LocationRule.{LocationRule}
 use Rattle.protocol_acl.specs.declared.acl.ProtocolRule.{ProtocolRule}
 use Rattle.time_window.specs.declared.acl.TimeRule.{TimeRule}

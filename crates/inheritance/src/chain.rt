@@ -2,7 +2,7 @@
 
 ghost use Rattle.std.specs.Prelude.{◌≡◌, IfOk, option_map, map};
 ghost use Rattle.std.specs.List.{find};
-ghost use Rattle.metadata_objects.specs.Tree.{level_view, index_view, hosts_view, paths_view, branches_of, branches_in, objects_in, host_view};
+ghost use Rattle.metadata_objects.specs.LevelData.{level_view, index_view, hosts_view, paths_view, branches_of, branches_in, objects_in, host_view};
 ghost use Rattle.inheritance.specs.Chain.{matches_target, arrays_at, first_match, chain};
 
 use cdni_base::Target;
@@ -39,7 +39,7 @@ fn first_host<'t>(hosts: &'t [HostMatch], target: &Target) -> Option<&'t HostMat
 fn matches(host: &HostMatch, target: &Target) -> bool
     ensures { result ≡ matches_target target.now (host_view host.now) }
 {
-    if !host.host.host.0.is(target.host.0.bytes()) {
+    if host.host.host != target.host {
         return false;
     }
     match host.host.port {

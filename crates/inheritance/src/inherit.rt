@@ -2,7 +2,7 @@
 
 ghost use Rattle.std.specs.Prelude.{◌≡◌, ◌++◌, ℕ, List, Some, IfSome, IfOk, OnOk, option_map, map};
 ghost use Rattle.std.specs.List.{find, list_any};
-ghost use Rattle.metadata_objects.specs.Tree.{index_view};
+ghost use Rattle.metadata_objects.specs.LevelData.{index_view};
 ghost use Rattle.inheritance.specs.Chain.{chain};
 ghost use Rattle.metadata_objects.specs.declared.generic.Generic.{Generic};
 ghost use Rattle.inheritance.specs.Effective.{is_of_kind, innermost, overriding, firsts, effective};

@@ -5,7 +5,7 @@ ghost use Rattle.std.specs.List.{find};
 ghost use Rattle.inheritance.specs.Effective.{is_of_kind};
 ghost use Rattle.inheritance.specs.Held.{is_understood, is_unenforceable, held_in, as_source, as_location, as_time, as_protocol, as_ignored, as_ccid, sources_of, location_of, time_of, protocol_of, ignored_of, ccid_of, unenforceable_of};
 
-use cdni_base::{Ignored, SourceItemList, Text};
+use cdni_base::{Ignored, SourceItemList, Text, TypeName};
 use location_acl::LocationAcl;
 use metadata_objects::{Generic, Held};
 use protocol_acl::ProtocolAcl;
@@ -90,7 +90,7 @@ impl<'t> Effective<'t> {
     }
 
     /// The first type whose object is mandatory and not understood (RFC 8006, section 4.1.7).
-    pub fn unenforceable(&self) -> Option<&Text>
+    pub fn unenforceable(&self) -> Option<&TypeName>
         ensures { option_map (λ kind. kind.now) result ≡ unenforceable_of self.now }
     {
         match self.first_unenforceable() {

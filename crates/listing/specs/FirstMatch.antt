@@ -1,5 +1,5 @@
 -- What a list of rules answers: the first rule whose test holds decides (RFC 8006, sections 4.2.2 to 4.2.4).
-use Rattle.std.specs.Prelude.{ℕ, ◌+◌, ◌^◌, ◌<◌, Bool, true, false, List, [], ◌∷◌, length, None, Some, if◌then◌else◌}
+use Rattle.std.specs.Prelude.{◌≡◌, ℕ, ◌+◌, ◌^◌, ◌<◌, Bool, true, false, List, [], ◌∷◌, length, take, slice_get, None, Some, if◌then◌else◌}
 use Rattle.std.specs.declared.option.Option.{Option}
 
 module _ {Rule : Type 0} where
@@ -18,3 +18,27 @@ module _ {Rule : Type 0} where
   abbrev pub AreNumbered : Option (List Rule) → Type 0
   AreNumbered None = Unit {0}
   AreNumbered (Some rules) = length rules < 2 ^ 32
+
+  -- the test holds of none of the rules
+  abbrev pub NoneHolds : (Rule → Bool) → List Rule → Type 0
+  NoneHolds holds rules = (i : ℕ) (rule : Rule) → slice_get rules i ≡ Some rule → holds rule ≡ false
+
+  -- the test holds of the rule with this number, counted from 1, and of none before it, and this is its action
+  pub record IsFirstToHold (holds allows : Rule → Bool) (rules : List Rule) (allowed : Bool) (number : ℕ) : Type 0 where
+    pub index : ℕ
+    pub rule : Rule
+    pub numbered : number ≡ index + 1
+    pub at : slice_get rules index ≡ Some rule
+    pub holds_it : holds rule ≡ true
+    pub none_before : NoneHolds holds (take index rules)
+    pub decides : allowed ≡ allows rule
+
+  -- rules answer the action and number of the first that holds, and deny without a number where none holds
+  abbrev pub IsAnswer : (Rule → Bool) → (Rule → Bool) → List Rule → Bool → Option ℕ → Type 0
+  IsAnswer holds allows rules allowed (Some number) = IsFirstToHold holds allows rules allowed number
+  IsAnswer holds allows rules allowed None = NoneHolds holds rules × (allowed ≡ false)
+
+  -- absent rules allow, without a number; else the first that holds decides
+  abbrev pub IsFirstMatch : (Rule → Bool) → (Rule → Bool) → Option (List Rule) → Bool × Option ℕ → Type 0
+  IsFirstMatch holds allows None answer = answer ≡ (true, None)
+  IsFirstMatch holds allows (Some rules) answer = IsAnswer holds allows rules answer.0 answer.1

@@ -2,3 +2,4 @@ pub mod Number
 pub mod Word
 pub mod FirstMatch
 pub mod Fronts
+pub mod ReservedList

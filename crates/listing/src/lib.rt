@@ -1,14 +1,21 @@
-//! The two lists that all other crates use: a text of bytes and a list of items, each seen as a list;
-//! and the numbers and words that are cut out of a line of bytes.
+//! The lists that all other crates use: a text of bytes and a list of items, each seen as a list; a list with reserved
+//! places; and lists of rules that allow and deny. And the numbers and words that are cut out of a line of bytes.
 #![tactic(auto)]
 
+mod first_match;
+pub mod laws;
 mod list;
 mod number;
+mod reserved_list;
+#[cfg(test)]
+mod tests;
 mod text;
 mod word;
 
+pub use first_match::{AccessList, AccessRule};
 pub use list::Listing;
 pub use number::{read_decimal, read_digits};
+pub use reserved_list::ReservedList;
 pub use text::Text;
 pub use word::cut_at;
 

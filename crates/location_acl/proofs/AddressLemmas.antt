@@ -4,8 +4,8 @@ use Rattle.std.specs.Prelude.{option_map, option_and_then}
 use Rattle.std.specs.Option.{option_or}
 use Rattle.std.specs.Result.{result_ok}
 use Rattle.location_acl.specs.declared.ip.AddressFault.{AddressFault}
-use Rattle.location_acl.specs.Place.{IsPlace}
-use Rattle.location_acl.proofs.PlaceLemmas.{place_of_either}
+use Rattle.listing.specs.Fronts.{IsLongestFront}
+use Rattle.location_acl.proofs.FrontLemmas.{place_of_either}
 use Rattle.std.proofs.lemmas.Bool.{cases_Bool, cond-true, leb-false, leb-true, eq-eqb}
 use Rattle.location_acl.specs.declared.dotted.Dotted.{Dotted}
 use Rattle.location_acl.specs.declared.dotted.Dotted.TheVariants.{First, Second, Third, Fourth}
@@ -15,8 +15,9 @@ use Rattle.location_acl.specs.declared.six.Six.TheVariants.{Start, Colon, Joined
 use Rattle.location_acl.specs.declared.ip.Ip.{Ip}
 use Rattle.location_acl.specs.declared.ip.Ip.TheVariants.{V4, V6}
 use Rattle.location_acl.specs.Groups.{has_room, is_whole, with_group, groups_value}
-use Rattle.location_acl.specs.Reading.{dotted_step, dotted_run, dotted_of, six_run, six_of, ip_of, IsSound}
-use Rattle.location_acl.specs.Address.{AreWritten, IsAddress, IsSomeAddress}
+use Rattle.location_acl.specs.Dotted.{dotted_step, dotted_run, dotted_of}
+use Rattle.location_acl.specs.Six.{six_run, six_of, IsSound, AreWritten}
+use Rattle.location_acl.specs.Ip.{ip_of, IsAddress, IsSomeAddress}
 use Rattle.location_acl.proofs.DottedLemmas.{dotted_from, dotted_is, dotted_completes}
 use Rattle.location_acl.proofs.SixLemmas.{six_from, groups_elim}
 use Rattle.location_acl.proofs.WrittenLemmas.{six_is, tail_run}
@@ -125,7 +126,7 @@ four_value text n is = ap (λ (o : Option ℕ). option_or (option_map V4 o) (opt
 pub six_value_is : (text : List ℕ) (six : Option ℕ) → None ≡ dotted_of text → six ≡ six_of text → option_map V6 six ≡ ip_of text
 six_value_is text six four is = ap (λ (o : Option ℕ). option_map V6 o) is ∙ ap (λ (o : Option ℕ). option_or (option_map V4 o) (option_map V6 (six_of text))) four
 
-pub bad_place : (text : List ℕ) (four six : ℕ) → IsPlace (λ t. IsSome (dotted_of t)) text four → IsPlace (λ t. IsSome (six_of t)) text six → (at : ℕ) → at ≡ max six four → IsPlace IsSomeAddress text at
+pub bad_place : (text : List ℕ) (four six : ℕ) → IsLongestFront (λ t. IsSome (dotted_of t)) text four → IsLongestFront (λ t. IsSome (six_of t)) text six → (at : ℕ) → at ≡ max six four → IsLongestFront IsSomeAddress text at
 bad_place text four six p q at is =
-    subst (λ (k : ℕ). IsPlace IsSomeAddress text k) (sym is)
+    subst (λ (k : ℕ). IsLongestFront IsSomeAddress text k) (sym is)
     (place_of_either (λ t. IsSome (six_of t)) (λ t. IsSome (dotted_of t)) IsSomeAddress text six four six_accepted dotted_accepted (λ t h. ⊎_elim (λ x. inr x) (λ y. inl y) (accepted_either t h)) q p)

@@ -19,8 +19,9 @@ use Rattle.location_acl.specs.declared.block.Block.{Block}
 use Rattle.location_acl.specs.declared.block.BlockFault.{BlockFault}
 use Rattle.location_acl.specs.declared.block.BlockFault.TheVariants.{BadAddress, BadLength}
 use Rattle.location_acl.specs.Groups.{has_room, no_groups}
-use Rattle.location_acl.specs.Reading.{number_with, begun, with_digit, dotted_step, dotted_run, dotted_of, six_step, six_run, six_of}
-use Rattle.location_acl.specs.Address.{IsAddress}
+use Rattle.location_acl.specs.Dotted.{number_with, dotted_step, dotted_run, dotted_of}
+use Rattle.location_acl.specs.Six.{begun, with_digit, six_step, six_run, six_of}
+use Rattle.location_acl.specs.Ip.{IsAddress}
 use Rattle.location_acl.specs.Block.{base_of, length_of, most_of, block_from, block_of, IsOfKind, IsLength, AreParts, IsBlock, ReadsBlock}
 use Rattle.location_acl.proofs.PartLemmas.{is_free, parts_are, parts_from}
 use Rattle.location_acl.proofs.DottedLemmas.{dotted_from, dotted_is}
@@ -253,7 +254,7 @@ one_reading six text (Err (BadLength n)) (Err (BadAddress at)) h k = absurd (k.0
 one_reading six text (Err (BadAddress at)) (Ok block) h k = absurd (h.0 block.base block.length k.0)
 one_reading six text (Err (BadAddress at)) (Err (BadLength n)) h k = absurd (h.0 k.0 n k.1)
 one_reading six text (Err (BadAddress at)) (Err (BadAddress place)) h k =
-    let one = h.1.longest place k.1.within k.1.begins in
-    let other = k.1.longest at h.1.within h.1.begins in
+    let one = h.1.longest place k.1.begins.0 k.1.within k.1.begins.1 in
+    let other = k.1.longest at h.1.begins.0 h.1.within h.1.begins.1 in
     let same : at ≡ place = omega arith in
     ap (λ (i : ℕ). refused (BadAddress i)) same

@@ -6,8 +6,7 @@ use Rattle.std.proofs.lemmas.Bool.{cases_Bool, and_parts, and_from, cond-true, c
 use Rattle.std.proofs.lemmas.Fmt.{decimal_digit, decimal_step, decimal_by_steps}
 use Rattle.location_acl.specs.declared.dotted.Dotted.{Dotted}
 use Rattle.location_acl.specs.declared.dotted.Dotted.TheVariants.{First, Second, Third, Fourth}
-use Rattle.location_acl.specs.Reading.{number_with, dotted_step, dotted_value, dotted_run, dotted_of}
-use Rattle.location_acl.specs.Address.{IsDotted}
+use Rattle.location_acl.specs.Dotted.{number_with, dotted_step, dotted_value, dotted_run, dotted_of, IsDotted}
 
 -- the text of a number that has begun, or none
 abbrev pub SeenNumber : Option ℕ → List ℕ → Type 0

@@ -3,10 +3,10 @@ pub mod PartLemmas
 pub mod DottedLemmas
 pub mod SixLemmas
 pub mod WrittenLemmas
-pub mod PlaceLemmas
+pub mod FrontLemmas
 pub mod AddressLemmas
 pub mod BlockLemmas
-pub mod BlockPlaces
+pub mod BlockFrontLemmas
 pub mod FootprintLemmas
 pub mod TableLemmas
 pub mod LineLemmas

@@ -1,28 +1,27 @@
 -- Reading a line of a place file against its grammar.
-use Rattle.std.proofs.Common.{zero, suc, ◌≡◌, ℕ, ◌+◌, ◌<◌, ◌≤◌, eqb, Bool, true, false, not, List, [], ◌∷◌, ◌++◌, length, length-append, append_assoc, append-nil, Option, Some, None, refl, ap, sym, subst, ◌∙◌, arith, ⊎_elim, decimal, lit<}
-use Rattle.std.specs.Prelude.{codes, bytes_eq, option_map, ◌==◌}
+use Rattle.std.proofs.Common.{zero, suc, ◌≡◌, ℕ, ◌+◌, ◌<◌, ◌≤◌, eqb, Bool, true, false, not, List, [], ◌∷◌, ◌++◌, length, length-append, append_assoc, append-nil, Option, Some, None, refl, ap, sym, subst, ◌∙◌, arith, decimal, lit<}
+use Rattle.std.specs.Prelude.{option_map, ◌==◌}
 use Rattle.std.specs.Option.{option_or}
 use Rattle.std.specs.Char.{is_ascii_digit, is_digit}
 use Rattle.std.specs.List.{list_all}
 use Rattle.std.specs.Str.{all_ascii_digits}
-use Rattle.std.proofs.lemmas.Bool.{cases_Bool, and_parts, and_from, cond-true, cond-false, ne_eqb}
+use Rattle.std.proofs.lemmas.Bool.{and_parts, and_from, ne_eqb}
 use Rattle.std.proofs.lemmas.List.Folds.{list_all-append}
-use Rattle.std.proofs.lemmas.Slice.Eq.{bytes_eq-Decides}
 use Rattle.listing.specs.Word.{parts_at, ◌>>=◌}
 use Rattle.location_acl.specs.declared.ip.Ip.{Ip}
 use Rattle.location_acl.specs.declared.ip.Ip.TheVariants.{V4, V6}
 use Rattle.location_acl.specs.declared.block.Block.{Block}
 use Rattle.location_acl.specs.declared.line.PlaceLine.{PlaceLine}
 use Rattle.location_acl.specs.Block.{block_of, most_of, IsOfKind, IsBlock}
-use Rattle.location_acl.specs.Footprint.{asn_of, country_of}
-use Rattle.location_acl.specs.Line.{IsKnownAsn, IsKnownCountry, IsLine, AreLines, StopsAt, either_block, known_asn, known_country, line_of}
+use Rattle.location_acl.specs.Footprint.{asn_of, country_of, optional, IsNetwork, IsCountry}
+use Rattle.location_acl.specs.Line.{IsLine, AreLines, StopsAt, either_block, line_of}
 use Rattle.location_acl.specs.Table.{FitsKind, width_of, first_line}
 use Rattle.location_acl.proofs.PartLemmas.{is_free, parts_are, parts_from}
 use Rattle.location_acl.proofs.WrittenLemmas.{decimal_digits}
 use Rattle.location_acl.proofs.BlockLemmas.{IsOther, address_free_of, block_from_text, block_is, parts_is, same_some, none_some}
-use Rattle.location_acl.specs.Address.{IsAddress}
+use Rattle.location_acl.specs.Ip.{IsAddress}
 use Rattle.location_acl.proofs.AddressLemmas.{one_address}
-use Rattle.location_acl.proofs.FootprintLemmas.{asn_from_text, asn_is, country_from_text, country_is}
+use Rattle.location_acl.proofs.FootprintLemmas.{network_from_text, network_is, known_country_from_text, known_country_is}
 
 -- a space and a line feed stand in no block, number or country
 pub record IsBlank (c : ℕ) : Type 0 where
@@ -52,12 +51,12 @@ block_free : (c : ℕ) → IsBlank c → (six : Bool) (text : List ℕ) (block :
 block_free c blank six text block h =
     ap (is_free c) h.0.parts ∙ free_append c h.0.front (47 ∷ h.0.behind) (address_free_of c blank.other h.0.front block.base h.0.address) (and_from (not (eqb 47 c)) _ (ap not blank.slash) (digits_free c blank.other h.0.behind h.0.long.digits))
 
-asn_free : (c : ℕ) → IsBlank c → (text : List ℕ) (asn : Option ℕ) → IsKnownAsn text asn → is_free c text ≡ true
+asn_free : (c : ℕ) → IsBlank c → (text : List ℕ) (asn : Option ℕ) → IsNetwork text asn → is_free c text ≡ true
 asn_free c blank text None h = ap (is_free c) h ∙ and_from (not (eqb 45 c)) true (ap not blank.dash) refl
 asn_free c blank text (Some n) h =
     ap (is_free c) h.1 ∙ and_from (not (eqb 97 c)) _ (ap not blank.a) (and_from (not (eqb 115 c)) _ (ap not blank.s) (hex_free c blank.other (decimal n) (decimal_digits n (omega (arith, h.0)))))
 
-country_free : (c : ℕ) → IsBlank c → (text : List ℕ) (country : Option (ℕ × ℕ)) → IsKnownCountry text country → is_free c text ≡ true
+country_free : (c : ℕ) → IsBlank c → (text : List ℕ) (country : Option (ℕ × ℕ)) → IsCountry text country → is_free c text ≡ true
 country_free c blank text None h = ap (is_free c) h ∙ and_from (not (eqb 45 c)) true (ap not blank.dash) refl
 country_free c blank text (Some l) h =
     let small = blank.small in
@@ -103,37 +102,6 @@ either_is : (six : Bool) (text : List ℕ) (block : Block) → IsBlock six text 
 either_is false text block h = ap (λ (o : Option Block). option_or o (block_of true text)) (block_is false text block h)
 either_is true text block h = ap (λ (o : Option Block). option_or o (block_of true text)) (no_four text block h) ∙ block_is true text block h
 
-known_asn_from : (text : List ℕ) (asn : Option ℕ) → known_asn text ≡ Some asn → IsKnownAsn text asn
-known_asn_from text asn is =
-    ⊎_elim (λ t. let same : None ≡ asn = (let e : Some None ≡ Some asn = sym (cond-true _ _ _ t) ∙ is in cc) in subst (λ (o : Option ℕ). IsKnownAsn text o) same ((bytes_eq-Decides text (codes "-")).0 t))
-    (λ f. number (asn_of text) refl (sym (cond-false _ _ _ f) ∙ is)) (cases_Bool (bytes_eq text (codes "-")))
-  where
-    number : (o : Option ℕ) → asn_of text ≡ o → option_map Some o ≡ Some asn → IsKnownAsn text asn
-    number None read is = absurd (cc)
-    number (Some n) read is = let same : Some n ≡ asn = cc in subst (λ (o : Option ℕ). IsKnownAsn text o) same (asn_from_text text n read)
-
-known_asn_is : (text : List ℕ) (asn : Option ℕ) → IsKnownAsn text asn → known_asn text ≡ Some asn
-known_asn_is text None h = ap known_asn h
-known_asn_is text (Some n) h =
-    cond-false (bytes_eq text (codes "-")) _ _ (ap (λ (xs : List ℕ). bytes_eq xs (codes "-")) h.1) ∙ ap (λ (o : Option ℕ). option_map Some o) (asn_is text n h.0 h.1)
-
-known_country_from : (text : List ℕ) (country : Option (ℕ × ℕ)) → known_country text ≡ Some country → IsKnownCountry text country
-known_country_from text country is =
-    ⊎_elim (λ t. let same : None ≡ country = (let e : Some None ≡ Some country = sym (cond-true _ _ _ t) ∙ is in cc) in subst (λ (o : Option (ℕ × ℕ)). IsKnownCountry text o) same ((bytes_eq-Decides text (codes "-")).0 t))
-    (λ f. letters (country_of text) refl (sym (cond-false _ _ _ f) ∙ is)) (cases_Bool (bytes_eq text (codes "-")))
-  where
-    letters : (o : Option (ℕ × ℕ)) → country_of text ≡ o → option_map Some o ≡ Some country → IsKnownCountry text country
-    letters None read is = absurd (cc)
-    letters (Some l) read is = let same : Some l ≡ country = cc in subst (λ (o : Option (ℕ × ℕ)). IsKnownCountry text o) same (country_from_text text l read)
-
-known_country_is : (text : List ℕ) (country : Option (ℕ × ℕ)) → IsKnownCountry text country → known_country text ≡ Some country
-known_country_is text None h = ap known_country h
-known_country_is text (Some l) h =
-    cond-false (bytes_eq text (codes "-")) _ _ (ap (λ (xs : List ℕ). bytes_eq xs (codes "-")) h.0 ∙ not_dash l) ∙ ap (λ (o : Option (ℕ × ℕ)). option_map Some o) (country_is text l.0 l.1 h.0 h.1 h.2)
-  where
-    not_dash : (l : ℕ × ℕ) → bytes_eq (l.0 ∷ l.1 ∷ []) (codes "-") ≡ false
-    not_dash l = ⊎_elim (λ t. absurd (omega (arith, ap length ((bytes_eq-Decides (l.0 ∷ l.1 ∷ []) (codes "-")).0 t)))) (λ f. f) (cases_Bool (bytes_eq (l.0 ∷ l.1 ∷ []) (codes "-")))
-
 bound : {A B : Type 0} (o : Option A) (next : A → Option B) (y : B) → (o >>= next) ≡ Some y → (x : A) × (o ≡ Some x) × (next x ≡ Some y)
 bound None next y is = absurd (cc)
 bound (Some x) next y is = (x, refl, is)
@@ -143,8 +111,8 @@ line_from_text text line is =
     let first = bound (parts_at 32 text) _ line is in
     let second = bound (parts_at 32 first.0.1) _ line first.2 in
     let block = bound (either_block first.0.0) _ line second.2 in
-    let asn = bound (known_asn second.0.0) _ line block.2 in
-    let country = bound (known_country second.0.1) _ line asn.2 in
+    let asn = bound (optional asn_of second.0.0) _ line block.2 in
+    let country = bound (optional country_of second.0.1) _ line asn.2 in
     let made : PlaceLine = record { block = block.0; asn = asn.0; country = country.0 } in
     let same : made ≡ line = (let e = country.2 in cc) in
     let kind = either_from first.0.0 block.0 block.1 in
@@ -155,8 +123,8 @@ line_from_text text line is =
       parts = parts_are 32 text first.0.0 first.0.1 first.1 ∙ ap (λ (xs : List ℕ). first.0.0 ++ 32 ∷ xs) (parts_are 32 first.0.1 second.0.0 second.0.1 second.1);
       six = kind.0;
       is_block = kind.1;
-      is_asn = known_asn_from second.0.0 asn.0 asn.1;
-      is_country = known_country_from second.0.1 country.0 country.1;
+      is_asn = network_from_text second.0.0 asn.0 asn.1;
+      is_country = known_country_from_text second.0.1 country.0 country.1;
     })
 
 pub line_is : (text : List ℕ) (line : PlaceLine) → IsLine text line → line_of text ≡ Some line
@@ -164,10 +132,10 @@ line_is text line h =
     let rest : List ℕ = h.asn ++ 32 ∷ h.country in
     let one = parts_from 32 text h.block rest h.parts (block_free 32 space h.six h.block line.block h.is_block) in
     let two = parts_from 32 rest h.asn h.country refl (asn_free 32 space h.asn line.asn h.is_asn) in
-    ap (λ (o : Option (List ℕ × List ℕ)). o >>= λ first. parts_at 32 first.1 >>= λ second. either_block first.0 >>= λ block. known_asn second.0 >>= λ asn. known_country second.1 >>= λ country. Some (let made : PlaceLine = record { block = block; asn = asn; country = country } in made)) one
-    ∙ ap (λ (o : Option (List ℕ × List ℕ)). o >>= λ second. either_block h.block >>= λ block. known_asn second.0 >>= λ asn. known_country second.1 >>= λ country. Some (let made : PlaceLine = record { block = block; asn = asn; country = country } in made)) two
-    ∙ ap (λ (o : Option Block). o >>= λ block. known_asn h.asn >>= λ asn. known_country h.country >>= λ country. Some (let made : PlaceLine = record { block = block; asn = asn; country = country } in made)) (either_is h.six h.block line.block h.is_block)
-    ∙ ap (λ (o : Option (Option ℕ)). o >>= λ asn. known_country h.country >>= λ country. Some (let made : PlaceLine = record { block = line.block; asn = asn; country = country } in made)) (known_asn_is h.asn line.asn h.is_asn)
+    ap (λ (o : Option (List ℕ × List ℕ)). o >>= λ first. parts_at 32 first.1 >>= λ second. either_block first.0 >>= λ block. optional asn_of second.0 >>= λ asn. optional country_of second.1 >>= λ country. Some (let made : PlaceLine = record { block = block; asn = asn; country = country } in made)) one
+    ∙ ap (λ (o : Option (List ℕ × List ℕ)). o >>= λ second. either_block h.block >>= λ block. optional asn_of second.0 >>= λ asn. optional country_of second.1 >>= λ country. Some (let made : PlaceLine = record { block = block; asn = asn; country = country } in made)) two
+    ∙ ap (λ (o : Option Block). o >>= λ block. optional asn_of h.asn >>= λ asn. optional country_of h.country >>= λ country. Some (let made : PlaceLine = record { block = block; asn = asn; country = country } in made)) (either_is h.six h.block line.block h.is_block)
+    ∙ ap (λ (o : Option (Option ℕ)). o >>= λ asn. optional country_of h.country >>= λ country. Some (let made : PlaceLine = record { block = line.block; asn = asn; country = country } in made)) (network_is h.asn line.asn h.is_asn)
     ∙ ap (λ (o : Option (Option (ℕ × ℕ))). o >>= λ country. Some (let made : PlaceLine = record { block = line.block; asn = line.asn; country = country } in made)) (known_country_is h.country line.country h.is_country)
 
 pub line_fits : (text : List ℕ) (line : PlaceLine) → line_of text ≡ Some line → FitsKind line.block

@@ -15,8 +15,9 @@ use Rattle.location_acl.specs.declared.six.Six.{Six}
 use Rattle.location_acl.specs.declared.six.Six.TheVariants.{Start, Colon, Joined, Gap, Group, Tail}
 use Rattle.location_acl.specs.declared.ip.Ip.TheVariants.{V6}
 use Rattle.location_acl.specs.Groups.{no_groups, has_room, has_room_for_dotted, is_whole, with_group, with_gap, groups_value}
-use Rattle.location_acl.specs.Reading.{number_with, hex_digit, first_digit, with_digit, begun, after_digits, six_step, six_value, six_run, six_of, dotted_step, dotted_value}
-use Rattle.location_acl.specs.Address.{IsDotted, IsGroup, AreJoined, AreWritten, number_of_groups, IsShortened, IsAddress}
+use Rattle.location_acl.specs.Dotted.{number_with, dotted_step, dotted_value, IsDotted}
+use Rattle.location_acl.specs.Six.{hex_digit, first_digit, with_digit, begun, after_digits, six_step, six_value, six_run, six_of, IsGroup, AreJoined, AreWritten, number_of_groups, IsShortened}
+use Rattle.location_acl.specs.Ip.{IsAddress}
 use Rattle.location_acl.proofs.DottedLemmas.{SeenDotted, number_seen, dotted_seen, dotted_ends}
 
 -- numbers of groups

@@ -13,7 +13,7 @@ use Rattle.location_acl.specs.declared.ip.Ip.TheVariants.{V4, V6}
 use Rattle.location_acl.specs.declared.block.Block.{Block}
 use Rattle.location_acl.specs.declared.line.PlaceLine.{PlaceLine}
 use Rattle.location_acl.specs.Block.{holds, is_in_same_block, has_same_front}
-use Rattle.location_acl.specs.Table.{key_of, same_key, FitsKind, width_of, first_from, IsIndexed, IsLongest, GivesPlace, longer_of}
+use Rattle.location_acl.specs.Table.{key_of, same_key, FitsKind, width_of, first_with_key, IsIndexed, IsLongest, GivesPlace, longer_of}
 
 abbrev pub Key : Type 0
 Key = Bool × ℕ × ℕ
@@ -56,11 +56,11 @@ key_holds block ip n same = of_kinds block.base block.length ip n same
     of_kinds (V6 base) m (V4 number) n same = let e : true ≡ false = ap (λ (k : Key). k.0) same in absurd (cc)
 
 -- one more line
-first_push : (i : ℕ) (lines : List PlaceLine) (line : PlaceLine) (key : Key) → first_from i (lines ++ line ∷ []) key ≡ option_or (first_from i lines key) (cond (same_key (key_of_line line) key) (Some (i + length lines)) None)
+first_push : (i : ℕ) (lines : List PlaceLine) (line : PlaceLine) (key : Key) → first_with_key i (lines ++ line ∷ []) key ≡ option_or (first_with_key i lines key) (cond (same_key (key_of_line line) key) (Some (i + length lines)) None)
 first_push i [] line key = ap (λ (k : ℕ). cond (same_key (key_of_line line) key) (Some k) None) (let e : i ≡ i + 0 = omega arith in e)
 first_push i (x ∷ lines) line key =
     ⊎_elim (λ t. cond-true _ _ _ t ∙ sym (ap (λ (o : Option ℕ). option_or o (cond (same_key (key_of_line line) key) (Some (i + suc (length lines))) None)) (cond-true (same_key (key_of_line x) key) (Some i) _ t)))
-    (λ f. cond-false _ _ _ f ∙ first_push (i + 1) lines line key ∙ ap (λ (k : ℕ). option_or (first_from (i + 1) lines key) (cond (same_key (key_of_line line) key) (Some k) None)) (let e : i + 1 + length lines ≡ i + suc (length lines) = omega arith in e)
+    (λ f. cond-false _ _ _ f ∙ first_push (i + 1) lines line key ∙ ap (λ (k : ℕ). option_or (first_with_key (i + 1) lines key) (cond (same_key (key_of_line line) key) (Some k) None)) (let e : i + 1 + length lines ≡ i + suc (length lines) = omega arith in e)
     ∙ sym (ap (λ (o : Option ℕ). option_or o (cond (same_key (key_of_line line) key) (Some (i + suc (length lines))) None)) (cond-false (same_key (key_of_line x) key) (Some i) _ f)))
     (cases_Bool (same_key (key_of_line x) key))
 
@@ -113,8 +113,8 @@ indexed_more lines more found next lengths line key old fits key_is more_is next
     let within : line.block.length < length lengths = omega (arith, old.wide, fits_below line.block.base line.block.length fits) in
     subst (λ (xs : List PlaceLine). IsIndexed xs next (set lengths line.block.length true)) (sym more_is) (record {
       firsts = λ q. next_is q ∙ ap (λ (o : Option ℕ). option_or o (cond (same_key key q) (Some (length lines)) None)) (old.firsts q)
-          ∙ ap (λ (k : Key). option_or (first_from 0 lines q) (cond (same_key k q) (Some (length lines)) None)) key_is
-          ∙ ap (λ (k : ℕ). option_or (first_from 0 lines q) (cond (same_key (key_of_line line) q) (Some k) None)) (let e : length lines ≡ 0 + length lines = omega arith in e)
+          ∙ ap (λ (k : Key). option_or (first_with_key 0 lines q) (cond (same_key k q) (Some (length lines)) None)) key_is
+          ∙ ap (λ (k : ℕ). option_or (first_with_key 0 lines q) (cond (same_key (key_of_line line) q) (Some k) None)) (let e : length lines ≡ 0 + length lines = omega arith in e)
           ∙ sym (first_push 0 lines line q);
       present = λ i other at. ⊎_elim (λ before. get_set lengths line.block.length other.block.length (old.present i other before))
           (λ new. subst (λ (l : PlaceLine). slice_get (set lengths line.block.length true) l.block.length ≡ Some true) new (set_get lengths line.block.length within)) (get_push lines line other i at);
@@ -123,7 +123,7 @@ indexed_more lines more found next lengths line key old fits key_is more_is next
     })
 
 -- the first line with a key
-pub first_is : (i : ℕ) (lines : List PlaceLine) (key : Key) (k : ℕ) → first_from i lines key ≡ Some k → (j : ℕ) × (line : PlaceLine) × (k ≡ i + j) × (slice_get lines j ≡ Some line) × (key_of_line line ≡ key) × ((m : ℕ) (other : PlaceLine) → m < j → slice_get lines m ≡ Some other → key_of_line other ≡ key → ⊥)
+pub first_is : (i : ℕ) (lines : List PlaceLine) (key : Key) (k : ℕ) → first_with_key i lines key ≡ Some k → (j : ℕ) × (line : PlaceLine) × (k ≡ i + j) × (slice_get lines j ≡ Some line) × (key_of_line line ≡ key) × ((m : ℕ) (other : PlaceLine) → m < j → slice_get lines m ≡ Some other → key_of_line other ≡ key → ⊥)
 first_is i [] key k is = absurd (cc)
 first_is i (x ∷ lines) key k is =
     ⊎_elim (λ t. let same : i ≡ k = (let e : Some i ≡ Some k = sym (cond-true _ _ _ t) ∙ is in cc) in
@@ -140,7 +140,7 @@ first_is i (x ∷ lines) key k is =
     earlier f j deep (suc m) other less at same = deep m other (omega arith) at same
 
 -- a line with the key is found
-pub some_first : (i : ℕ) (lines : List PlaceLine) (key : Key) (j : ℕ) (line : PlaceLine) → slice_get lines j ≡ Some line → key_of_line line ≡ key → is_some (first_from i lines key) ≡ true
+pub some_first : (i : ℕ) (lines : List PlaceLine) (key : Key) (j : ℕ) (line : PlaceLine) → slice_get lines j ≡ Some line → key_of_line line ≡ key → is_some (first_with_key i lines key) ≡ true
 some_first i [] key j line at same = absurd (cc)
 some_first i (x ∷ lines) key zero line at same =
     let first : x ≡ line = cc in

@@ -15,8 +15,9 @@ use Rattle.location_acl.specs.declared.six.Six.{Six}
 use Rattle.location_acl.specs.declared.six.Six.TheVariants.{Start, Joined, Gap, Group, Tail}
 use Rattle.location_acl.specs.declared.ip.Ip.TheVariants.{V6}
 use Rattle.location_acl.specs.Groups.{no_groups, has_room, has_room_for_dotted, is_whole, with_group, with_gap, groups_value}
-use Rattle.location_acl.specs.Reading.{number_with, hex_digit, begun, after_digits, six_run, six_of, dotted_step, dotted_run}
-use Rattle.location_acl.specs.Address.{IsDotted, IsGroup, AreJoined, AreWritten, number_of_groups, IsAddress}
+use Rattle.location_acl.specs.Dotted.{number_with, dotted_step, dotted_run, IsDotted}
+use Rattle.location_acl.specs.Six.{hex_digit, begun, after_digits, six_run, six_of, IsGroup, AreJoined, AreWritten, number_of_groups}
+use Rattle.location_acl.specs.Ip.{IsAddress}
 use Rattle.location_acl.proofs.DottedLemmas.{along_decimal, dotted_rest}
 use Rattle.location_acl.proofs.SixLemmas.{Holds, EndRoom, with_all, groups_elim, push_plain, holds_all_gap, holds_all_plain, holds_shortened, holds_whole}
 

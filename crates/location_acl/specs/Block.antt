@@ -10,9 +10,10 @@ use Rattle.location_acl.specs.declared.ip.Ip.TheVariants.{V4, V6}
 use Rattle.location_acl.specs.declared.block.Block.{Block}
 use Rattle.location_acl.specs.declared.block.BlockFault.{BlockFault}
 use Rattle.location_acl.specs.declared.block.BlockFault.TheVariants.{BadAddress, BadLength}
-use Rattle.location_acl.specs.Reading.{dotted_of, six_of}
-use Rattle.location_acl.specs.Address.{IsAddress}
-use Rattle.location_acl.specs.Place.{IsPlace}
+use Rattle.location_acl.specs.Dotted.{dotted_of}
+use Rattle.location_acl.specs.Six.{six_of}
+use Rattle.location_acl.specs.Ip.{IsAddress}
+use Rattle.listing.specs.Fronts.{IsLongestFront}
 
 -- two numbers of so many bits have the same first bits, as many as the length says
 abbrev pub has_same_front : ℕ → ℕ → ℕ → ℕ → Bool
@@ -96,4 +97,4 @@ IsSomeBlock six text = (block : Block) × IsBlock six text block
 abbrev pub ReadsBlock : Bool → List ℕ → Result Block BlockFault → Type 0
 ReadsBlock six text (Ok block) = IsBlock six text block
 ReadsBlock six text (Err (BadLength n)) = (base : Ip) × AreParts six text base n × (most_of six < n)
-ReadsBlock six text (Err (BadAddress at)) = ((base : Ip) (n : ℕ) → AreParts six text base n → ⊥) × IsPlace (IsSomeBlock six) text at
+ReadsBlock six text (Err (BadAddress at)) = ((base : Ip) (n : ℕ) → AreParts six text base n → ⊥) × IsLongestFront (IsSomeBlock six) text at

@@ -1,7 +1,7 @@
-pub mod Address
-pub mod Place
+pub mod Dotted
 pub mod Groups
-pub mod Reading
+pub mod Six
+pub mod Ip
 pub mod Block
 pub mod Footprint
 pub mod Acl

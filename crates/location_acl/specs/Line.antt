@@ -1,21 +1,11 @@
 -- Lines of a place file.
-use Rattle.std.specs.Prelude.{◌≡◌, ℕ, ◌+◌, ◌<◌, ◌≤◌, Bool, true, false, bytes_eq, codes, decimal, List, [], ◌∷◌, ◌++◌, length, Option, Some, None, option_map, if◌then◌else◌}
+use Rattle.std.specs.Prelude.{◌≡◌, ℕ, ◌+◌, ◌<◌, Bool, true, false, List, [], ◌∷◌, ◌++◌, length, Option, Some}
 use Rattle.std.specs.Option.{option_or}
 use Rattle.listing.specs.Word.{parts_at, ◌>>=◌}
 use Rattle.location_acl.specs.declared.block.Block.{Block}
 use Rattle.location_acl.specs.declared.line.PlaceLine.{PlaceLine}
 use Rattle.location_acl.specs.Block.{block_of, IsBlock}
-use Rattle.location_acl.specs.Footprint.{asn_of, country_of, IsLowerLetter}
-
--- the number of an autonomous system, or `-` where it is not known
-abbrev pub IsKnownAsn : List ℕ → Option ℕ → Type 0
-IsKnownAsn text None = text ≡ codes "-"
-IsKnownAsn text (Some number) = (number ≤ 4294967295) × (text ≡ codes "as" ++ decimal number)
-
--- a country, or `-` where it is not known
-abbrev pub IsKnownCountry : List ℕ → Option (ℕ × ℕ) → Type 0
-IsKnownCountry text None = text ≡ codes "-"
-IsKnownCountry text (Some letters) = (text ≡ letters.0 ∷ letters.1 ∷ []) × IsLowerLetter letters.0 × IsLowerLetter letters.1
+use Rattle.location_acl.specs.Footprint.{asn_of, country_of, optional, IsNetwork, IsCountry}
 
 -- a block, which is of the kind of its address, a space, an `asn` or `-`, a space, and a country or `-`
 pub record IsLine (text : List ℕ) (line : PlaceLine) : Type 0 where
@@ -25,8 +15,8 @@ pub record IsLine (text : List ℕ) (line : PlaceLine) : Type 0 where
   pub parts : text ≡ block ++ 32 ∷ (asn ++ 32 ∷ country)
   pub six : Bool
   pub is_block : IsBlock six block line.block
-  pub is_asn : IsKnownAsn asn line.asn
-  pub is_country : IsKnownCountry country line.country
+  pub is_asn : IsNetwork asn line.asn
+  pub is_country : IsCountry country line.country
 
 -- lines, each with its line feed
 abbrev pub AreLines : List ℕ → List PlaceLine → Type 0
@@ -49,18 +39,12 @@ pub record StopsAt (bytes : List ℕ) (number : ℕ) : Type 0 where
 abbrev pub either_block : List ℕ → Option Block
 either_block text = option_or (block_of false text) (block_of true text)
 
-abbrev pub known_asn : List ℕ → Option (Option ℕ)
-known_asn text = if bytes_eq text (codes "-") then Some None else option_map Some (asn_of text)
-
-abbrev pub known_country : List ℕ → Option (Option (ℕ × ℕ))
-known_country text = if bytes_eq text (codes "-") then Some None else option_map Some (country_of text)
-
 -- the line that a text is, computed
 abbrev pub line_of : List ℕ → Option PlaceLine
 line_of text =
     parts_at 32 text >>= λ first.
     parts_at 32 first.1 >>= λ second.
     either_block first.0 >>= λ block.
-    known_asn second.0 >>= λ asn.
-    known_country second.1 >>= λ country.
+    optional asn_of second.0 >>= λ asn.
+    optional country_of second.1 >>= λ country.
     Some (record { block = block; asn = asn; country = country })

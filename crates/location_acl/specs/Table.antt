@@ -50,13 +50,13 @@ abbrev pub FitsKind : Block → Type 0
 FitsKind block = block.length ≤ width_of block.base
 
 -- the first line with this key, where the lines are counted from this number on
-abbrev pub first_from : ℕ → List PlaceLine → Bool × ℕ × ℕ → Option ℕ
-first_from i [] key = None
-first_from i (line ∷ lines) key = if same_key (key_of line.block.base line.block.length) key then Some i else first_from (i + 1) lines key
+abbrev pub first_with_key : ℕ → List PlaceLine → Bool × ℕ × ℕ → Option ℕ
+first_with_key i [] key = None
+first_with_key i (line ∷ lines) key = if same_key (key_of line.block.base line.block.length) key then Some i else first_with_key (i + 1) lines key
 
 -- the index finds the first line of each key, and knows which lengths there are
 pub record IsIndexed (lines : List PlaceLine) (found : Bool × ℕ × ℕ → Option ℕ) (lengths : List Bool) : Type 0 where
-  pub firsts : (key : Bool × ℕ × ℕ) → found key ≡ first_from 0 lines key
+  pub firsts : (key : Bool × ℕ × ℕ) → found key ≡ first_with_key 0 lines key
   pub present : (i : ℕ) (line : PlaceLine) → slice_get lines i ≡ Some line → slice_get lengths line.block.length ≡ Some true
   pub wide : length lengths ≡ 129
   pub fits : (i : ℕ) (line : PlaceLine) → slice_get lines i ≡ Some line → FitsKind line.block

@@ -2,7 +2,7 @@
 
 ghost use Rattle.std.specs.Prelude.{◌≡◌, ◌-◌, ◌/◌, ◌^◌, ◌≤◌, IfErr, IsSome};
 ghost use Rattle.std.specs.Result.{result_ok};
-ghost use Rattle.location_acl.specs.Place.{IsPlace};
+ghost use Rattle.listing.specs.Fronts.{IsLongestFront};
 ghost use Rattle.location_acl.specs.Block.{has_same_front, base_of, length_of, length_with, most_of, IsFitting};
 
 use crate::ip::Ip;
@@ -91,7 +91,7 @@ pub fn front_bits(number: u128, width: u8, length: u8) -> u128
 // the address of this kind that the text is; otherwise how many of its first bytes begin one, at most
 fn read_base(text: &[u8], six: bool) -> Result<Ip, usize>
     ensures value { result_ok result ≡ base_of six text.now }
-    ensures place { IfErr result (IsPlace (λ other. IsSome (base_of six other)) text.now) }
+    ensures place { IfErr result (IsLongestFront (λ other. IsSome (base_of six other)) text.now) }
 {
     if six {
         match six::read(text) {
@@ -108,7 +108,7 @@ fn read_base(text: &[u8], six: bool) -> Result<Ip, usize>
 
 // how many of the first bytes begin an address of this kind, at most
 fn begun_base(text: &[u8], six: bool) -> usize
-    ensures { IsPlace (λ other. IsSome (base_of six other)) text.now result }
+    ensures { IsLongestFront (λ other. IsSome (base_of six other)) text.now result }
 {
     match read_base(text, six) {
         Ok(_) => text.len(),
@@ -152,7 +152,7 @@ fn length_with(six: bool, number: u64, count: usize, byte: u8) -> Option<u64>
 
 // how many of the first bytes begin a length that fits, at most
 fn begun_length(text: &[u8], six: bool) -> usize
-    ensures { IsPlace (IsFitting six) text.now result }
+    ensures { IsLongestFront (IsFitting six) text.now result }
 {
     let mut number = 0;
     'digits: for (at, byte) in text.iter().enumerate() {

@@ -1,9 +1,9 @@
 //! Reading IPv4 addresses, a byte at a time.
 
 ghost use Rattle.std.specs.Prelude.{◌≡◌, IfErr, IsSome};
-ghost use Rattle.location_acl.specs.Place.{IsPlace};
+ghost use Rattle.listing.specs.Fronts.{IsLongestFront};
 ghost use Rattle.std.specs.Result.{result_ok};
-ghost use Rattle.location_acl.specs.Reading.{number_with, dotted_step, dotted_value, dotted_of};
+ghost use Rattle.location_acl.specs.Dotted.{number_with, dotted_step, dotted_value, dotted_of};
 
 /// The front of an IPv4 address: the numbers that are complete, and the one that is being read, if it has begun.
 #[derive(Clone, Copy)]
@@ -77,7 +77,7 @@ impl Dotted {
 /// The IPv4 address that the text is. Otherwise how many of its first bytes begin one, at most.
 pub fn read(text: &[u8]) -> Result<u32, usize>
     ensures value { result_ok result ≡ dotted_of text.now }
-    ensures place { IfErr result (IsPlace (λ other. IsSome (dotted_of other)) text.now) }
+    ensures place { IfErr result (IsLongestFront (λ other. IsSome (dotted_of other)) text.now) }
 {
     let mut front = Dotted::First(None);
     'bytes: for (at, byte) in text.iter().enumerate() {

@@ -19,9 +19,8 @@ pub enum AddressFault {
 }
 
 impl Ip {
-    ghost use Rattle.location_acl.specs.Address.{IsAddress, IsSomeAddress};
-    ghost use Rattle.location_acl.specs.Place.{IsPlace};
-    ghost use Rattle.location_acl.specs.Reading.{ip_of};
+    ghost use Rattle.location_acl.specs.Ip.{IsAddress, IsSomeAddress, ip_of};
+    ghost use Rattle.listing.specs.Fronts.{IsLongestFront};
 
     /// Reads an address: four numbers 0 to 255 without leading zeros joined by `.`, or an IPv6 address (RFC 4291,
     /// section 2.2).
@@ -31,7 +30,7 @@ impl Ip {
     pub fn read(text: &[u8]) -> Result<Ip, AddressFault>
         ensures ok { (ip : Ip) → (result ≡ Ok ip) ↔ IsAddress text.now ip }
         ensures value { result_ok result ≡ ip_of text.now }
-        ensures place { (at : ℕ) → result ≡ Err (AddressFault.BadAddress at) → IsPlace IsSomeAddress text.now at }
+        ensures place { (at : ℕ) → result ≡ Err (AddressFault.BadAddress at) → IsLongestFront IsSomeAddress text.now at }
     {
         let at_four = match dotted::read(text) {
             Ok(number) => return Ok(Ip::V4(number)),

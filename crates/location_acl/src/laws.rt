@@ -9,8 +9,7 @@ ghost use Rattle.location_acl.specs.declared.line.PlaceLine.{PlaceLine};
 ghost use Rattle.location_acl.specs.Block.{ReadsBlock, has_same_front, is_in_same_block};
 ghost use Rattle.location_acl.specs.Line.{AreLines, StopsAt};
 ghost use Rattle.location_acl.specs.Table.{GivesPlace};
-ghost use Rattle.location_acl.specs.Address.{IsAddress};
-ghost use Rattle.location_acl.specs.Reading.{ip_of};
+ghost use Rattle.location_acl.specs.Ip.{IsAddress, ip_of};
 
 /// Each text is one address at most: the grammar gives one value.
 pub fn text_has_one_address()

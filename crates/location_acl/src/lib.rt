@@ -16,7 +16,9 @@ mod table;
 
 pub use acl::{FootprintList, LocationAcl, LocationRule, LocationRuleList};
 pub use block::{Block, BlockFault};
-pub use footprint::{Footprint, Place, asn_of, country_of};
+pub use footprint::{
+    Footprint, FootprintType, Place, asn_of, country_of, read_country, read_network,
+};
 pub use ip::{AddressFault, Ip};
 pub use line::PlaceLine;
 pub use table::{PlaceFault, PlaceTable};

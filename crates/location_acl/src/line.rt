@@ -1,10 +1,10 @@
 //! Lines of a place file.
 
 ghost use Rattle.std.specs.Prelude.{◌≡◌};
-ghost use Rattle.location_acl.specs.Line.{either_block, known_asn, known_country, line_of};
+ghost use Rattle.location_acl.specs.Line.{either_block, line_of};
 
 use crate::block::Block;
-use crate::footprint::{asn_of, country_of};
+use crate::footprint::{read_country, read_network};
 use listing::cut_at;
 
 /// A line of a place file: a block of addresses, and where they are known the number of their autonomous system and
@@ -26,32 +26,6 @@ fn either_block(text: &[u8]) -> Option<Block>
     }
 }
 
-// the number of an autonomous system, or that it is not known
-fn known_asn(text: &[u8]) -> Option<Option<u32>>
-    ensures { result ≡ known_asn text.now }
-{
-    if text == b"-".as_slice() {
-        return Some(None);
-    }
-    match asn_of(text) {
-        Some(number) => Some(Some(number)),
-        None => None,
-    }
-}
-
-// a country, or that it is not known
-fn known_country(text: &[u8]) -> Option<Option<(u8, u8)>>
-    ensures { result ≡ known_country text.now }
-{
-    if text == b"-".as_slice() {
-        return Some(None);
-    }
-    match country_of(text) {
-        Some(letters) => Some(Some(letters)),
-        None => None,
-    }
-}
-
 /// The line that the text, without its line feed, is: a block of either kind, a space, `as` and the number of an
 /// autonomous system or `-`, a space, and a country or `-`.
 pub fn line_of(text: &[u8]) -> Option<PlaceLine>
@@ -61,7 +35,7 @@ pub fn line_of(text: &[u8]) -> Option<PlaceLine>
     let (asn, country) = cut_at(b' ', rest)?;
     Some(PlaceLine {
         block: either_block(block)?,
-        asn: known_asn(asn)?,
-        country: known_country(country)?,
+        asn: read_network(asn)?,
+        country: read_country(country)?,
     })
 }

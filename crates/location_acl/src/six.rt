@@ -1,10 +1,10 @@
 //! Reading IPv6 addresses, a byte at a time.
 
 ghost use Rattle.std.specs.Prelude.{◌≡◌, ◌<◌, ◌≤◌, IfSome, IfErr, IsSome};
-ghost use Rattle.location_acl.specs.Place.{IsPlace};
+ghost use Rattle.listing.specs.Fronts.{IsLongestFront};
 ghost use Rattle.std.specs.Result.{result_ok};
 ghost use Rattle.location_acl.specs.Groups.{AreBounded};
-ghost use Rattle.location_acl.specs.Reading.{hex_digit, first_digit, with_digit, begun, after_digits, six_step, six_value, six_of, IsSound, AreHex};
+ghost use Rattle.location_acl.specs.Six.{hex_digit, first_digit, with_digit, begun, after_digits, six_step, six_value, six_of, IsSound, AreHex};
 
 use crate::dotted::{Dotted, number_with};
 use crate::groups::Groups;
@@ -179,7 +179,7 @@ impl Six {
 /// The IPv6 address that the text is. Otherwise how many of its first bytes begin one, at most.
 pub fn read(text: &[u8]) -> Result<u128, usize>
     ensures value { result_ok result ≡ six_of text.now }
-    ensures place { IfErr result (IsPlace (λ other. IsSome (six_of other)) text.now) }
+    ensures place { IfErr result (IsLongestFront (λ other. IsSome (six_of other)) text.now) }
 {
     let mut front = Six::Start;
     'bytes: for (at, byte) in text.iter().enumerate() {

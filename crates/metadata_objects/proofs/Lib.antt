@@ -1,3 +1,5 @@
+pub mod AgreeLemmas
+pub mod BoundLemmas
 pub mod Counts
 pub mod Loops
 mod Nesting

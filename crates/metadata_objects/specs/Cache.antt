@@ -10,6 +10,7 @@ use Rattle.listing.specs.Word.{◌>>=◌}
 use Rattle.cdni_base.specs.declared.key.Ignored.{Ignored}
 use Rattle.cdni_base.specs.declared.key.Ignored.TheVariants as ignored
 use Rattle.metadata_objects.specs.Items.{each_of, name_in}
+use Rattle.metadata_objects.specs.declared.cache.TheConstants.{CCID_MAX}
 
 -- these names, in lower case; an empty list ignores all of the query
 abbrev pub ignored_names : List (List ℕ) → Ignored
@@ -30,7 +31,7 @@ is_ccid_byte byte = not (nat_lt byte 32) && not (byte == 127)
 
 -- a text of 1 to 255 such bytes
 unfoldable pub ccid_of : List ℕ → Option (List ℕ)
-ccid_of text = if nat_lt 0 (length text) && nat_le (length text) 255 && list_all is_ccid_byte text then Some text else None
+ccid_of text = if nat_lt 0 (length text) && nat_le (length text) CCID_MAX && list_all is_ccid_byte text then Some text else None
 
 abbrev pub ccid_found : Option Data → Option (Option (List ℕ))
 ccid_found None = Some None

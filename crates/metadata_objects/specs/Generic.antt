@@ -1,21 +1,24 @@
 -- GenericMetadata (RFC 8006, section 4.1.7).
-use Rattle.std.specs.Prelude.{ℕ, Bool, true, false, List, codes, bytes_eq, length, None, Some, Ok, nat_lt, nat_le, ◌&&◌, if◌then◌else◌}
+use Rattle.std.specs.Prelude.{◌≡◌, ◌≤◌, ℕ, Bool, true, false, List, codes, bytes_eq, length, None, Some, Ok, nat_lt, if◌then◌else◌, [], ◌∷◌}
 use Rattle.std.specs.Str.{str_to_ascii_lowercase}
 use Rattle.std.specs.declared.option.Option.{Option}
 use Rattle.serde_json.specs.Data.{Data, Items}
+use Rattle.cdni_base.specs.TypeName.{named}
+use Rattle.cdni_base.specs.declared.type_name.TheConstants.{TYPE_NAME_MAX}
 use Rattle.json_read.specs.Field.{◌>>=◌, needed}
 use Rattle.json_read.specs.Path.{child_of}
 use Rattle.metadata_objects.specs.Reading.{Reading, counted, no_link, needed_text, in_range, field, flag_or, all_of}
 use Rattle.metadata_objects.specs.Cache.{ignored_in, grouping_in}
 use Rattle.metadata_objects.specs.Lists.{locations_in, times_in, protocols_in}
-use Rattle.metadata_objects.specs.Source.{sources_in}
+use Rattle.metadata_objects.specs.Source.{sources_in, endpoint_count}
+use Rattle.metadata_objects.specs.declared.source.TheConstants.{ENDPOINTS_MAX}
 use Rattle.metadata_objects.specs.declared.generic.Generic.{Generic}
 use Rattle.metadata_objects.specs.declared.generic.Held.{Held}
 use Rattle.metadata_objects.specs.declared.generic.Held.TheVariants as held
 
 -- a type name of 1 to 127 bytes, in lower case
 unfoldable pub kind_of : List ℕ → Option (List ℕ)
-kind_of text = if nat_lt 0 (length text) && nat_le (length text) 127 then Some (str_to_ascii_lowercase text) else None
+kind_of text = if nat_lt 0 (length text) then named (str_to_ascii_lowercase text) else None
 
 -- what was read of a value, or that it is not understood
 abbrev pub held_as : {A : Type 0} → (A → Held) → Option A → Held
@@ -56,3 +59,19 @@ generic_of path n value = do
 -- the objects of a list
 abbrev pub generics_of : List ℕ → ℕ → Items → Reading (List Generic × ℕ)
 generics_of path n items = all_of generic_of path 0 n items
+
+-- sources have at most 16 endpoints together
+abbrev pub HasFewEndpoints : Held → Type 0
+HasFewEndpoints (held.Source sources) = endpoint_count sources ≤ ENDPOINTS_MAX
+HasFewEndpoints other = Unit {0}
+
+-- an object as it is read: its type has 1 to 127 bytes in lower case, and its sources at most 16 endpoints together
+pub record IsRead (object : Generic) : Type 0 where
+  pub named : 1 ≤ length object.kind
+  pub short : length object.kind ≤ TYPE_NAME_MAX
+  pub lower : str_to_ascii_lowercase object.kind ≡ object.kind
+  pub few : HasFewEndpoints object.held
+
+-- the properties of a GenericMetadata that count
+abbrev pub generic_names : List (List ℕ)
+generic_names = codes "href" ∷ codes "generic-metadata-type" ∷ codes "generic-metadata-value" ∷ codes "mandatory-to-enforce" ∷ codes "safe-to-redistribute" ∷ codes "incomprehensible" ∷ []

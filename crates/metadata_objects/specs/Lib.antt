@@ -7,4 +7,5 @@ pub mod Level
 pub mod Lists
 pub mod Reading
 pub mod Source
+pub mod LevelData
 pub mod Tree

@@ -1,18 +1,20 @@
 -- The values of the access lists (RFC 8006, sections 4.2.2 to 4.2.4). What does not read is not understood.
-use Rattle.std.specs.Prelude.{ℕ, ◌^◌, Bool, true, false, List, codes, bytes_eq, length, None, Some, ◌||◌, nat_lt, nat_le, if◌then◌else◌}
+use Rattle.std.specs.Prelude.{ℕ, ◌^◌, Bool, true, false, List, codes, bytes_eq, length, None, Some, nat_lt, nat_le, if◌then◌else◌}
 use Rattle.std.specs.List.{flat_map}
 use Rattle.std.specs.Option.{option_map}
 use Rattle.std.specs.declared.option.Option.{Option}
 use Rattle.serde_json.specs.Data.{Data, Items}
 use Rattle.serde_json.specs.Find.{get, as_str, as_array, as_object, as_number, as_u64}
 use Rattle.listing.specs.Word.{◌>>=◌}
-use Rattle.location_acl.specs.Footprint.{footprint_of}
+use Rattle.location_acl.specs.Footprint.{type_of_name, footprint_of_type}
 use Rattle.location_acl.specs.declared.acl.LocationRule.{LocationRule}
 use Rattle.location_acl.specs.declared.footprint.Footprint.{Footprint}
+use Rattle.location_acl.specs.declared.footprint.FootprintType.{FootprintType}
 use Rattle.time_window.specs.declared.acl.TimeRule.{TimeRule}
 use Rattle.time_window.specs.declared.acl.TimeWindow.{TimeWindow}
 use Rattle.protocol_acl.specs.declared.acl.ProtocolRule.{ProtocolRule}
 use Rattle.metadata_objects.specs.Items.{each_of, name_in}
+use Rattle.metadata_objects.specs.declared.lists.TheConstants.{SECONDS_MAX}
 
 -- ---- what the three lists have in common
 
@@ -47,21 +49,15 @@ few_rules (Some rules) = if nat_lt (length rules) (2 ^ 32) then Some (Some rules
 
 -- ---- MI.LocationACL
 
--- a type of footprints (RFC 8006, section 7.2)
-abbrev pub is_footprint_type : List ℕ → Bool
-is_footprint_type kind = bytes_eq kind (codes "ipv4cidr") || bytes_eq kind (codes "ipv6cidr") || bytes_eq kind (codes "asn") || bytes_eq kind (codes "countrycode")
-
 -- a value of a footprint of this type
-unfoldable pub footprint_value_in : List ℕ → Data → Option Footprint
-footprint_value_in kind value = as_str value >>= λ text. footprint_of kind text
-
-abbrev pub footprints_of_type : List ℕ → Items → Option (List Footprint)
-footprints_of_type kind items = if is_footprint_type kind then each_of (footprint_value_in kind) items else None
+unfoldable pub footprint_value_in : FootprintType → Data → Option Footprint
+footprint_value_in kind value = as_str value >>= λ text. footprint_of_type kind text
 
 -- the values of a footprint, each as a footprint of its own (RFC 8006, section 4.2.2.2)
 unfoldable pub footprints_in : Data → Option (List Footprint)
-footprints_in value = get (codes "footprint-type") value >>= λ member. as_str member >>= λ kind.
-    get (codes "footprint-value") value >>= λ list. as_array list >>= λ items. footprints_of_type kind items
+footprints_in value = get (codes "footprint-type") value >>= λ member. as_str member >>= λ name.
+    get (codes "footprint-value") value >>= λ list. as_array list >>= λ items.
+    type_of_name name >>= λ kind. each_of (footprint_value_in kind) items
 
 -- the footprints of all these lists, in order
 abbrev pub joined : List (List Footprint) → List Footprint
@@ -77,7 +73,7 @@ locations_in value = rules_in location_rule_in (codes "locations") value >>= few
 
 -- a whole number of seconds, at most 2 ^ 53
 unfoldable pub seconds_in : List ℕ → Data → Option ℕ
-seconds_in name value = get name value >>= λ member. as_number member >>= λ number. as_u64 number >>= λ n. if nat_le n (2 ^ 53) then Some n else None
+seconds_in name value = get name value >>= λ member. as_number member >>= λ number. as_u64 number >>= λ n. if nat_le n SECONDS_MAX then Some n else None
 
 unfoldable pub window_in : Data → Option TimeWindow
 window_in value = seconds_in (codes "start") value >>= λ start. seconds_in (codes "end") value >>= λ last. Some (record { start = start; end = last })

@@ -4,13 +4,14 @@ use Rattle.std.specs.Option.{is_some}
 use Rattle.std.specs.declared.option.Option.{Option}
 use Rattle.std.specs.declared.result.Result.{Result}
 use Rattle.serde_json.specs.Data.{Data, Items, no_items, item}
-use Rattle.serde_json.specs.Find.{get}
+use Rattle.serde_json.specs.Find.{get, as_object}
 use Rattle.json_read.specs.Field.{◌>>=◌, or_fault, looked_up, needed, text_of, flag_of}
 use Rattle.json_read.specs.Path.{child_of, item_of}
 use Rattle.json_read.specs.declared.fault.FieldCause.TheVariants.{OutOfRange}
 use Rattle.json_read.specs.declared.fault.FieldFault.{FieldFault}
 use Rattle.json_read.specs.declared.fault.JsonFault.{JsonFault}
 use Rattle.json_read.specs.declared.fault.JsonFault.TheVariants as json_fault
+use Rattle.metadata_objects.specs.declared.object.TheConstants.{OBJECTS_MAX}
 use Rattle.metadata_objects.specs.declared.fault.MetaFault.{MetaFault}
 use Rattle.metadata_objects.specs.declared.fault.MetaFault.TheVariants as meta_fault
 
@@ -29,7 +30,7 @@ field (Err fault) = Err (meta_fault.Field fault)
 
 -- one object more than n, of which there are at most 10,000
 abbrev pub counted : ℕ → Reading ℕ
-counted n = if nat_lt n 10000 then Ok (n + 1) else Err (meta_fault.TooMany 10001)
+counted n = if nat_lt n OBJECTS_MAX then Ok (n + 1) else Err (meta_fault.TooMany (OBJECTS_MAX + 1))
 
 -- a Link stands where an object has a property `href`
 abbrev pub no_link : List ℕ → Data → Reading (Unit {0})
@@ -72,3 +73,13 @@ Fails fault reading = reading ≡ Err fault
 abbrev pub Gives : {A B : Type 0} → (A → B) → Result A MetaFault → Reading B → Type 0
 Gives seen (Ok a) reading = reading ≡ Ok (seen a)
 Gives seen (Err fault) reading = Fails fault reading
+
+-- they have the same at each of these names
+abbrev pub AgreeAt : List (List ℕ) → Data → Data → Type 0
+AgreeAt [] value other = Unit {0}
+AgreeAt (name ∷ names) value other = (get name value ≡ get name other) × AgreeAt names value other
+
+-- both are objects, or neither is, and they have the same at each of these names
+pub record AgreeOn (names : List (List ℕ)) (value other : Data) : Type 0 where
+  pub objects : is_some (as_object value) ≡ is_some (as_object other)
+  pub members : AgreeAt names value other

@@ -6,10 +6,11 @@ use Rattle.std.specs.Result.{result_ok}
 use Rattle.std.specs.declared.option.Option.{Option}
 use Rattle.serde_json.specs.Data.{Data}
 use Rattle.serde_json.specs.Find.{get, as_str, as_array, as_object}
-use Rattle.cdni_base.specs.Endpoint.{endpoint_of}
-use Rattle.cdni_base.specs.declared.endpoint.Endpoint.{Endpoint}
-use Rattle.cdni_base.specs.declared.target.SourceItem.{SourceItem}
+use Rattle.targets.specs.Endpoint.{endpoint_of}
+use Rattle.targets.specs.declared.endpoint.Endpoint.{Endpoint}
+use Rattle.cdni_base.specs.declared.source_item.SourceItem.{SourceItem}
 use Rattle.metadata_objects.specs.Items.{each_of}
+use Rattle.metadata_objects.specs.declared.source.TheConstants.{ENDPOINTS_MAX}
 
 -- an endpoint (RFC 8006, section 4.3.3)
 unfoldable pub endpoint_in : Data → Option Endpoint
@@ -31,7 +32,7 @@ endpoint_count sources = sum_by (λ source. length source.endpoints) sources
 
 -- at most 16 endpoints together
 abbrev pub few_sources : List SourceItem → Option (List SourceItem)
-few_sources sources = if nat_le (endpoint_count sources) 16 then Some sources else None
+few_sources sources = if nat_le (endpoint_count sources) ENDPOINTS_MAX then Some sources else None
 
 abbrev pub listed_sources : Option Data → Option (List SourceItem)
 listed_sources None = Some []

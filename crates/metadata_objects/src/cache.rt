@@ -10,6 +10,9 @@ use cdni_base::{Ignored, Listing, Text, TextList};
 use json_read::JsonValue;
 use std::alloc::{AllocError, Global};
 
+/// The most bytes of a ccid.
+pub const CCID_MAX: usize = 255;
+
 // which part of the query does not count, if the value reads
 #[tactic(auto, unfolding(crate::specs::Cache::ignored_in))]
 pub(crate) fn ignored_of<V: JsonValue>(
@@ -92,7 +95,7 @@ pub(crate) fn grouping_of<V: JsonValue>(
 fn ccid_at(alloc: Global, text: &[u8]) -> Result<Option<Text>, AllocError>
     ensures { IfOk result (λ found. found ≡ ccid_of text.now) }
 {
-    if text.is_empty() || text.len() > 255 || !has_ccid_bytes(text) {
+    if text.is_empty() || text.len() > CCID_MAX || !has_ccid_bytes(text) {
         return Ok(None);
     }
     Ok(Some(Text::of(alloc, text)?))

@@ -11,7 +11,7 @@ use crate::lists::{protocols_of, times_of};
 use crate::location::locations_of;
 use crate::object::{flag, one_more, out_of_range, refuse_link, text};
 use crate::source::sources_of;
-use cdni_base::{Ignored, Listing, SourceItemList, Text};
+use cdni_base::{Ignored, Listing, SourceItemList, Text, TypeName};
 use json_read::{JsonPath, JsonValue, need};
 use location_acl::LocationAcl;
 use protocol_acl::ProtocolAcl;
@@ -22,7 +22,7 @@ use time_window::TimeWindowAcl;
 #[derive(Drop)]
 pub struct Generic {
     /// The type's name, 1 to 127 bytes in lower case.
-    pub kind: Text,
+    pub kind: TypeName,
     /// Whether the delivery is forbidden where this object is not understood.
     pub mandatory: bool,
     /// Whether the object may be passed on by a node that does not understand it.
@@ -107,24 +107,20 @@ fn generic_at<V: JsonValue>(
 
 // a type's name in lower case, if it has 1 to 127 bytes
 #[tactic(auto, unfolding(crate::specs::Generic::kind_of))]
-fn kind_at(alloc: Global, name: &[u8]) -> Result<Option<Text>, AllocError>
+fn kind_at(alloc: Global, name: &[u8]) -> Result<Option<TypeName>, AllocError>
     ensures { IfOk result (λ found. found ≡ kind_of name.now) }
 {
-    if name.is_empty() || name.len() > 127 {
+    if name.is_empty() {
         return Ok(None);
     }
-    Ok(Some(Text::from_vec(
-        name.iter()
-            .map(|byte| byte.to_ascii_lowercase())
-            .collect(alloc)?,
-    )))
+    TypeName::lowered(alloc, name)
 }
 
 // what is held of a value of this type
 fn held_at<V: JsonValue>(
     alloc: Global,
     incomprehensible: bool,
-    kind: &Text,
+    kind: &TypeName,
     value: &V,
 ) -> Result<Held, AllocError>
     ensures { IfOk result (λ held. held ≡ held_of incomprehensible kind.now (V.seen value.now)) }
@@ -137,7 +133,7 @@ fn held_at<V: JsonValue>(
 
 // what is understood of a value of this type
 #[tactic(auto, unfolding(crate::specs::Generic::understood))]
-fn understand<V: JsonValue>(alloc: Global, kind: &Text, value: &V) -> Result<Held, AllocError>
+fn understand<V: JsonValue>(alloc: Global, kind: &TypeName, value: &V) -> Result<Held, AllocError>
     ensures { IfOk result (λ held. held ≡ understood kind.now (V.seen value.now)) }
 {
     let held = if kind.is(b"mi.sourcemetadata") {
@@ -154,7 +150,11 @@ fn understand<V: JsonValue>(alloc: Global, kind: &Text, value: &V) -> Result<Hel
 
 // the same of the access lists
 #[tactic(auto, unfolding(crate::specs::Generic::understood_list))]
-fn understand_list<V: JsonValue>(alloc: Global, kind: &Text, value: &V) -> Result<Held, AllocError>
+fn understand_list<V: JsonValue>(
+    alloc: Global,
+    kind: &TypeName,
+    value: &V,
+) -> Result<Held, AllocError>
     ensures { IfOk result (λ held. held ≡ understood_list kind.now (V.seen value.now)) }
 {
     let held = if kind.is(b"mi.locationacl") {

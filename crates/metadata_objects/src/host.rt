@@ -1,10 +1,10 @@
 //! HostIndex and HostMatch (RFC 8006, sections 4.1.1 and 4.1.2).
 
-ghost use Rattle.std.specs.Prelude.{◌≡◌, map};
+ghost use Rattle.std.specs.Prelude.{◌≡◌, ◌<◌, length, map, IfOk, Err};
 ghost use Rattle.serde_json.specs.View.{items_of};
 ghost use Rattle.metadata_objects.specs.Reading.{Gives};
-ghost use Rattle.metadata_objects.specs.Host.{host_match_of, hosts_of};
-ghost use Rattle.metadata_objects.specs.Tree.{host_view, hosts_view};
+ghost use Rattle.metadata_objects.specs.Host.{host_index_of, host_match_of, hosts_of};
+ghost use Rattle.metadata_objects.specs.LevelData.{host_view, hosts_view, index_view};
 
 use crate::fault::MetaFault;
 use crate::level::{Level, level_at_member};
@@ -14,7 +14,10 @@ use json_read::{JsonPath, JsonScratch, JsonValue, ParseFault, list_at, need, par
 use std::alloc::Global;
 
 /// How many PathMatch objects may nest.
-const NESTING: u32 = 16;
+pub const NESTING_MAX: u32 = 16;
+
+/// The most bytes of the text of a HostIndex.
+pub const DOCUMENT_MAX: usize = 8388608;
 
 /// The hosts of a metadata tree, in order (RFC 8006, section 4.1.1).
 #[derive(Drop)]
@@ -33,18 +36,20 @@ pub struct HostMatch {
 pub type HostMatchList = Listing<HostMatch>;
 
 impl HostIndex {
-    ghost use Rattle.metadata_objects.specs.Host.{host_index_of, host_index_of_text};
-    ghost use Rattle.metadata_objects.specs.Tree.{index_view};
+    ghost use Rattle.metadata_objects.specs.Host.{host_index_of_text, IsWithinLimits};
+    ghost use Rattle.metadata_objects.specs.declared.host.TheConstants.{DOCUMENT_MAX};
 
     /// Reads the HostIndex of a JSON text of at most 8,388,608 bytes.
     ///
     /// # Errors
-    /// The first fault in the order of reading, or want of memory.
+    /// `TooLong` exactly where the text is longer, else the first fault in the order of reading, or want of memory.
     #[tactic(auto, unfolding(crate::specs::Host::host_index_of_text))]
     pub fn read(alloc: Global, bytes: &[u8]) -> Result<HostIndex, MetaFault>
-        ensures { Gives (λ index. index_view index) result (host_index_of_text bytes.now) }
+        ensures value { Gives (λ index. index_view index) result (host_index_of_text bytes.now) }
+        ensures within { IfOk result (λ index. IsWithinLimits (index_view index)) }
+        ensures too_long { DOCUMENT_MAX < length bytes.now → result ≡ Err (MetaFault.TooLong (length bytes.now)) }
     {
-        if bytes.len() > 8388608 {
+        if bytes.len() > DOCUMENT_MAX {
             return Err(MetaFault::TooLong { len: bytes.len() });
         }
         let mut scratch = JsonScratch::new(alloc);
@@ -59,17 +64,24 @@ impl HostIndex {
     ///
     /// # Errors
     /// The first fault in the order of reading, or want of memory.
-    #[tactic(auto, unfolding(crate::specs::Host::host_index_of))]
     pub fn of_value<V: JsonValue>(alloc: Global, value: &V) -> Result<HostIndex, MetaFault>
-        ensures { Gives (λ index. index_view index) result (host_index_of (V.seen value.now)) }
+        ensures value { Gives (λ index. index_view index) result (host_index_of (V.seen value.now)) }
+        ensures within { IfOk result (λ index. IsWithinLimits (index_view index)) }
     {
-        let root = JsonPath::root(alloc);
-        let list = need(alloc, value, &root, "hosts")?;
-        let path = root.child(alloc, "hosts")?;
-        let items = list_at(alloc, list, &path)?;
-        let (hosts, _) = hosts_at(alloc, items, &path, 0)?;
-        Ok(HostIndex { hosts })
+        index_of(alloc, value)
     }
+}
+
+#[tactic(auto, unfolding(crate::specs::Host::host_index_of))]
+fn index_of<V: JsonValue>(alloc: Global, value: &V) -> Result<HostIndex, MetaFault>
+    ensures { Gives (λ index. index_view index) result (host_index_of (V.seen value.now)) }
+{
+    let root = JsonPath::root(alloc);
+    let list = need(alloc, value, &root, "hosts")?;
+    let path = root.child(alloc, "hosts")?;
+    let items = list_at(alloc, list, &path)?;
+    let (hosts, _) = hosts_at(alloc, items, &path, 0)?;
+    Ok(HostIndex { hosts })
 }
 
 // the hosts of the list at `path`, after `count` objects
@@ -110,6 +122,6 @@ fn host_match_at<V: JsonValue>(
         Err(EndpointFault::Memory) => return Err(MetaFault::Memory),
         Err(_) => return Err(out_of_range(alloc, path, "host")),
     };
-    let (level, count) = level_at_member(alloc, value, path, "host-metadata", NESTING, count)?;
+    let (level, count) = level_at_member(alloc, value, path, "host-metadata", NESTING_MAX, count)?;
     Ok((HostMatch { host, level }, count))
 }

@@ -4,18 +4,19 @@ ghost use Rattle.std.specs.Prelude.{◌≡◌, map};
 ghost use Rattle.serde_json.specs.View.{items_of};
 ghost use Rattle.json_read.specs.Path.{IsName};
 ghost use Rattle.metadata_objects.specs.Reading.{Gives, all_of};
-ghost use Rattle.metadata_objects.specs.Tree.{level_view, path_view, paths_view};
+ghost use Rattle.metadata_objects.specs.LevelData.{level_view, path_view, paths_view};
 ghost use Rattle.metadata_objects.specs.Level.{metadata_of, paths_of, level_with, needed_level, pattern_of, needed_pattern, path_match_with, path_match_of};
 
 use crate::fault::MetaFault;
 use crate::generic::{GenericList, generics_at};
+use crate::host::NESTING_MAX;
 use crate::object::{flag, one_more, out_of_range, refuse_link, text};
 use cdni_base::Listing;
 use json_read::{JsonPath, JsonValue, list_at, maybe, need};
 use pattern_match::{MAX_PATTERN_LEN, Pattern, PatternFault};
 use std::alloc::Global;
 
-/// The metadata of one level (RFC 8006, sections 4.1.3 and 4.1.6), and the levels below it. It is seen as a `Tree`.
+/// The metadata of one level (RFC 8006, sections 4.1.3 and 4.1.6), and the levels below it. It is seen as a `LevelData`.
 #[derive(Drop)]
 #[cycle(level)]
 pub struct Level {
@@ -146,7 +147,9 @@ fn path_match_at<V: JsonValue>(
 {
     if left == 0 {
         one_more(count)?;
-        return Err(MetaFault::TooDeep { n: 17 });
+        return Err(MetaFault::TooDeep {
+            n: NESTING_MAX as usize + 1,
+        });
     }
     path_match_within(alloc, value, path, left - 1, count)
 }

@@ -11,6 +11,9 @@ use protocol_acl::{ProtocolAcl, ProtocolRule};
 use std::alloc::{AllocError, Global};
 use time_window::{TimeRule, TimeWindow, TimeWindowAcl};
 
+/// The greatest second of a time window, 2^53.
+pub const SECONDS_MAX: u64 = 9007199254740992;
+
 // whether a rule allows, if its action reads; an absent one denies
 #[tactic(auto, unfolding(crate::specs::Lists::action_in))]
 pub(crate) fn action_of<V: JsonValue>(value: &V) -> Option<bool>
@@ -100,7 +103,7 @@ fn seconds_of<V: JsonValue>(value: &V, name: &str) -> Option<u64>
     ensures { result ≡ seconds_in name.now (V.seen value.now) }
 {
     match value.get(name).and_then(V::as_u64) {
-        Some(seconds) if seconds <= 9007199254740992 => Some(seconds),
+        Some(seconds) if seconds <= SECONDS_MAX => Some(seconds),
         _ => None,
     }
 }

@@ -3,13 +3,13 @@
 ghost use Rattle.std.specs.Prelude.{◌≡◌, IfOk, codes, map, option_map};
 ghost use Rattle.serde_json.specs.View.{items_of};
 ghost use Rattle.metadata_objects.specs.Items.{each_of, Adds};
-ghost use Rattle.metadata_objects.specs.Lists.{is_footprint_type, footprint_value_in, footprints_in, joined, listed_in, location_rule_in, locations_in};
+ghost use Rattle.metadata_objects.specs.Lists.{footprint_value_in, footprints_in, joined, listed_in, location_rule_in, locations_in};
 
 use crate::items::Item;
 use crate::lists::{action_of, rules};
 use cdni_base::Listing;
 use json_read::JsonValue;
-use location_acl::{Footprint, FootprintList, LocationAcl, LocationRule};
+use location_acl::{Footprint, FootprintList, FootprintType, LocationAcl, LocationRule};
 use std::alloc::{AllocError, Global};
 
 // the location list of a value, if it reads
@@ -79,28 +79,19 @@ fn add_footprints<V: JsonValue>(all: &mut FootprintList, value: &V) -> Result<bo
     let Some(items) = value.get("footprint-value").and_then(V::as_array) else {
         return Ok(false);
     };
-    if !is_footprint_type(kind.as_bytes()) {
+    let Some(kind) = FootprintType::read(kind.as_bytes()) else {
         return Ok(false);
-    }
-    add_values(all, kind.as_bytes(), items)
-}
-
-fn is_footprint_type(kind: &[u8]) -> bool
-    ensures { result ≡ is_footprint_type kind.now }
-{
-    kind == b"ipv4cidr".as_slice()
-        || kind == b"ipv6cidr".as_slice()
-        || kind == b"asn".as_slice()
-        || kind == b"countrycode".as_slice()
+    };
+    add_values(all, kind, items)
 }
 
 // adds the values of footprints of this type, and tells whether each of them read
 fn add_values<V: JsonValue>(
     all: &mut FootprintList,
-    kind: &[u8],
+    kind: FootprintType,
     items: &[V],
 ) -> Result<bool, AllocError>
-    ensures { IfOk result (λ added. Adds all.old added all.new (each_of (footprint_value_in kind.now) (items_of (map V.seen items.now)))) }
+    ensures { IfOk result (λ added. Adds all.old added all.new (each_of (footprint_value_in kind) (items_of (map V.seen items.now)))) }
 {
     'items: for i in 0..items.len() {
         let Some(footprint) = value_of(kind, &items[i]) else {
@@ -112,11 +103,11 @@ fn add_values<V: JsonValue>(
 }
 
 #[tactic(auto, unfolding(crate::specs::Lists::footprint_value_in))]
-fn value_of<V: JsonValue>(kind: &[u8], value: &V) -> Option<Footprint>
-    ensures { result ≡ footprint_value_in kind.now (V.seen value.now) }
+fn value_of<V: JsonValue>(kind: FootprintType, value: &V) -> Option<Footprint>
+    ensures { result ≡ footprint_value_in kind (V.seen value.now) }
 {
     match value.as_str() {
-        Some(text) => Footprint::read(kind, text.as_bytes()),
+        Some(text) => Footprint::read_as(kind, text.as_bytes()),
         None => None,
     }
 }

@@ -8,14 +8,19 @@ use crate::fault::MetaFault;
 use json_read::{FieldCause, FieldFault, JsonPath, JsonValue, flag_at, maybe, need, text_at};
 use std::alloc::Global;
 
+/// The most objects of a HostIndex.
+pub const OBJECTS_MAX: u32 = 10000;
+
 // one object more than `count`
 pub(crate) fn one_more(count: u32) -> Result<u32, MetaFault>
     ensures { result ≡ counted count }
 {
-    if count < 10000 {
+    if count < OBJECTS_MAX {
         Ok(count + 1)
     } else {
-        Err(MetaFault::TooMany { n: 10001 })
+        Err(MetaFault::TooMany {
+            n: OBJECTS_MAX as usize + 1,
+        })
     }
 }
 

@@ -1,12 +1,16 @@
 //! The value of MI.SourceMetadata (RFC 8006, section 4.2.1).
 
 ghost use Rattle.std.specs.Prelude.{◌≡◌, IfOk, nat_le};
+ghost use Rattle.metadata_objects.specs.declared.source.TheConstants.{ENDPOINTS_MAX};
 ghost use Rattle.metadata_objects.specs.Source.{endpoint_in, source_in, sources_in, listed_sources, few_sources, endpoint_count};
 
 use crate::items::{Item, each};
 use cdni_base::{Endpoint, EndpointFault, Listing, SourceItem, SourceItemList, Text};
 use json_read::JsonValue;
 use std::alloc::{AllocError, Global};
+
+/// The most endpoints that the sources of one object have together.
+pub const ENDPOINTS_MAX: usize = 16;
 
 // the sources of the value, if it reads
 #[tactic(auto, unfolding(crate::specs::Source::sources_in))]
@@ -35,7 +39,7 @@ pub(crate) fn sources_of<V: JsonValue>(
 fn few(sources: SourceItemList) -> Option<SourceItemList>
     ensures { result ≡ few_sources sources }
 {
-    if count_endpoints(&sources) <= 16 {
+    if count_endpoints(&sources) <= ENDPOINTS_MAX {
         Some(sources)
     } else {
         None
@@ -44,12 +48,12 @@ fn few(sources: SourceItemList) -> Option<SourceItemList>
 
 // how many endpoints the sources have together, or 17 where they have more
 fn count_endpoints(sources: &SourceItemList) -> usize
-    ensures { nat_le result 16 ≡ nat_le (endpoint_count sources.now) 16 }
+    ensures { nat_le result ENDPOINTS_MAX ≡ nat_le (endpoint_count sources.now) ENDPOINTS_MAX }
 {
     let mut count = 0;
     'sources: for source in sources.as_slice() {
-        if source.endpoints.len() > 16 - count {
-            return 17;
+        if source.endpoints.len() > ENDPOINTS_MAX - count {
+            return ENDPOINTS_MAX + 1;
         }
         count += source.endpoints.len();
     }

@@ -42,8 +42,8 @@ fn protocols_of_rules(rt: HostRuntime) -> Result<(), Fail> {
 fn absent_and_empty_rules(rt: HostRuntime) -> Result<(), Fail> {
     let alloc = rt.alloc();
     let absent = ProtocolAcl::new(None).expect(&rt, "no rules");
-    assert_eq!(rt; absent.decide(b"http/1.1"), (true, None));
+    assert_eq!(rt; absent.decide(b"http/1.1".as_slice()), (true, None));
     let none = ProtocolAcl::new(Some(ProtocolRuleList::new(alloc))).expect(&rt, "few rules");
-    assert_eq!(rt; none.decide(b"http/1.1"), (false, None));
+    assert_eq!(rt; none.decide(b"http/1.1".as_slice()), (false, None));
     Ok(())
 }

@@ -6,6 +6,7 @@ use crate::cell::TurnCell;
 use crate::pass::Pass;
 use crate::stands::Stands;
 use std::alloc::{AllocError, Global};
+use std::snapshot::Snapshot;
 use std::sync::Wait;
 
 /// A value that keeps its whole history. Each entry is the number of the pass that made it, and a number that it noted.
@@ -50,8 +51,14 @@ pub fn note<R: Wait>(
 {
     let number = pass.number();
     let mut turn = cell.take(rt, pass);
-    let noted = turn.value().entries.push((number, entry));
-    turn.give(pass);
-    noted?;
-    Ok(())
+    match turn.value().entries.push((number, entry)) {
+        Ok(()) => {
+            turn.give_entry(pass, Snapshot::of(&entry));
+            Ok(())
+        }
+        Err(refused) => {
+            turn.give_same(pass);
+            Err(AllocError::from(refused))
+        }
+    }
 }

@@ -1,8 +1,10 @@
 ghost use Rattle.std.specs.Prelude.{◌≡◌, ℕ, [], ◌∷◌, All, IfSome};
 ghost use Rattle.turn_cell.specs.Cell.{number_of, numbers_of, seen_of, IsOf};
 
-use crate::{Diary, Pass, PassList, TurnCell, note, rule_of_a_cell};
+use crate::{Diary, Pass, PassList, Stands, TurnCell, note, rule_of_a_cell};
 use std::alloc::Global;
+use std::marker::{Brand, PhantomData};
+use std::snapshot::Snapshot;
 use std::sync::Wait;
 use std::test::Fail;
 use std::thread;
@@ -59,10 +61,12 @@ fn note_slowly<R: Threads + Wait + Sync + Clock>(
         let number = pass.number();
         let mut turn = cell.take(rt, &mut pass);
         thread::sleep(rt, Duration::from_millis(1));
-        let noted = turn.value().entries.push((number, entry));
-        turn.give(&mut pass);
-        if noted.is_err() {
-            break;
+        match turn.value().entries.push((number, entry)) {
+            Ok(()) => turn.give_entry(&mut pass, Snapshot::of(&entry)),
+            Err(_) => {
+                turn.give_same(&mut pass);
+                break;
+            }
         }
     }
     pass
@@ -218,5 +222,80 @@ fn a_list_of_passes_is_a_list(rt: HostRuntime) -> Result<(), Fail> {
     assert!(rt; other.into_vec().len() == 1 && list.len() == 1);
     drop(cell);
     rule_of_a_cell::<Diary>();
+    Ok(())
+}
+
+// A part of a cell's value that stays as the cell was made with it. The call that makes the cell picks it.
+trait Fixed {
+    ghost limit: { ℕ };
+}
+
+impl Fixed for Brand {
+    ghost limit = { 0 };
+}
+
+// A value whose limit is the fixed one in each history.
+#[derive(Drop)]
+struct Limited<J: Fixed> {
+    limit: u64,
+    of: PhantomData<J>,
+}
+
+impl<J: Fixed> Stands for Limited<J> {
+    type Entry = u64;
+
+    ghost stands = { λ value history. value.limit ≡ J.limit };
+}
+
+// The limit that a turn finds. The turn makes an entry of it.
+fn limit_at<J: Fixed, R: Wait>(rt: &R, cell: &TurnCell<Limited<J>>, pass: &mut Pass<u64>) -> u64
+    requires { IsOf cell.now pass.old }
+    ensures limit { result ≡ J.limit }
+    ensures pass { IsOf cell.now pass.new }
+{
+    let mut turn = cell.take(rt, pass);
+    let limit = turn.value().limit;
+    turn.give_entry(pass, Snapshot::of(&limit));
+    limit
+}
+
+// The limits that two turns of two passes find, in a cell that is made with this limit.
+fn limits_as<J: Fixed, R: Wait>(rt: &R, alloc: Global, limit: u64) -> Option<(u64, u64)>
+    requires { limit ≡ J.limit }
+    ensures { IfSome result (λ found. (found.0 ≡ limit) × (found.1 ≡ limit)) }
+{
+    let value = Limited {
+        limit,
+        of: PhantomData,
+    };
+    let Ok((cell, mut list)) = TurnCell::<Limited<J>>::new(rt, alloc, value, 2) else {
+        return None;
+    };
+    let mut a = any_of(&cell, &mut list)?;
+    let mut b = any_of(&cell, &mut list)?;
+    Some((limit_at(rt, &cell, &mut a), limit_at(rt, &cell, &mut b)))
+}
+
+// the last pass of a list
+fn any_of<V: Stands>(cell: &TurnCell<V>, list: &mut PassList<V::Entry>) -> Option<Pass<V::Entry>>
+    requires { All (λ pass. IsOf cell.now pass) list.old }
+    ensures cell { All (λ pass. IsOf cell.now pass) list.new }
+    ensures found { IfSome result (λ pass. IsOf cell.now pass) }
+{
+    list.pop()
+}
+
+// Whoever calls this knows the limit of each turn, and no brand.
+fn limits_of_two_turns<R: Wait>(rt: &R, alloc: Global, limit: u64) -> Option<(u64, u64)>
+    ensures { IfSome result (λ found. (found.0 ≡ limit) × (found.1 ≡ limit)) }
+{
+    limits_as::<Brand, R>(rt, alloc, limit)
+}
+
+#[test]
+fn each_turn_knows_what_its_cell_was_made_with(rt: HostRuntime) -> Result<(), Fail> {
+    let (first, second) = limits_of_two_turns(&rt, rt.alloc(), 77).ok_or("no memory")?;
+    prove!(first == 77 && second == 77);
+    assert_eq!(rt; (first, second), (77, 77));
     Ok(())
 }

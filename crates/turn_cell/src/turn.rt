@@ -1,4 +1,4 @@
-ghost use Rattle.std.specs.Prelude.{◌≡◌, ℕ, List, []};
+ghost use Rattle.std.specs.Prelude.{◌≡◌, ℕ, List, [], ◌∷◌, ◌++◌};
 ghost use types.Logic.{sem};
 ghost use mir.Syntax.{named};
 ghost use Rattle.std.specs.Borrow.{Lends};
@@ -9,6 +9,7 @@ use crate::stands::Stands;
 use crate::view::View;
 use atomic_table::Seat;
 use std::marker::Brand;
+use std::snapshot::Snapshot;
 use std::sync::MutexGuard;
 
 /// A turn at a cell's value. It cannot be let go: it ends by `give`.
@@ -57,5 +58,48 @@ impl<'c, V: Stands> Turn<'c, V> {
         cell.pass_on::<Brand>(&mut seat);
         pass.badge = seat.into_badge();
         drop(guard);
+    }
+
+    /// Gives the turn back to the pass that took it, with one entry of this pass more than was taken. The entry is named by
+    /// its snapshot, which is no copy and costs nothing.
+    pub fn give_entry(self, pass: &mut Pass<V::Entry>, entry: Snapshot<V::Entry>)
+        requires turn { IsTaken self }
+        requires pass { HasTaken pass.old self }
+        requires value { V.stands (value_of self) (taken self ++ (turn_number self, entry.value) ∷ []) }
+        ensures pass { IsOf (cell_of self.entry) pass.new }
+        ensures number { number_of pass.new ≡ number_of pass.old }
+        ensures numbers { numbers_of pass.new ≡ turn_numbers self.entry }
+        ensures seen { seen_of pass.new ≡ taken self.entry ++ (turn_number self.entry, entry.value) ∷ [] }
+    {
+        self.give_as(pass, entry);
+    }
+
+    /// Gives the turn back to the pass that took it, with no entry more.
+    pub fn give_same(self, pass: &mut Pass<V::Entry>)
+        requires turn { IsTaken self }
+        requires pass { HasTaken pass.old self }
+        requires value { V.stands (value_of self) (taken self) }
+        ensures pass { IsOf (cell_of self.entry) pass.new }
+        ensures number { number_of pass.new ≡ number_of pass.old }
+        ensures numbers { numbers_of pass.new ≡ turn_numbers self.entry }
+        ensures seen { seen_of pass.new ≡ taken self.entry }
+    {
+        self.give(pass);
+    }
+
+    // gives the turn back with this history, which is the one that was taken and the entry
+    fn give_as(self, pass: &mut Pass<V::Entry>, entry: Snapshot<V::Entry>)
+        ghost history: { List (ℕ × V.Entry) }
+        requires turn { IsTaken self }
+        requires pass { HasTaken pass.old self }
+        requires history { history ≡ taken self ++ (turn_number self, entry.value) ∷ [] }
+        requires value { V.stands (value_of self) history }
+        ensures pass { IsOf (cell_of self.entry) pass.new }
+        ensures number { number_of pass.new ≡ number_of pass.old }
+        ensures numbers { numbers_of pass.new ≡ turn_numbers self.entry }
+        ensures seen { seen_of pass.new ≡ history }
+    {
+        let _ = entry;
+        self.give(pass);
     }
 }

@@ -1,7 +1,7 @@
 -- A plan is not empty where a source that delivers by HTTP/1.1 has an endpoint.
 use Rattle.std.proofs.Common.{◌≡◌, ℕ, ◌+◌, ◌<◌, true, List, [], ◌∷◌, ◌++◌, length, drop, get_or, refl, sym, ◌∙◌, ap, arith, add-one, drop-cons, length-append}
-use Rattle.cdni_base.specs.declared.endpoint.Endpoint.{Endpoint}
-use Rattle.cdni_base.specs.declared.target.SourceItem.{SourceItem}
+use Rattle.targets.specs.declared.endpoint.Endpoint.{Endpoint}
+use Rattle.cdni_base.specs.declared.source_item.SourceItem.{SourceItem}
 use Rattle.verdict.specs.Plan.{speaks_http, plan_from}
 
 not_nothing : (front back : List Endpoint) → 0 < length front → front ++ back ≡ [] → ⊥

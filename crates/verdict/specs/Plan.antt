@@ -3,8 +3,8 @@ use Rattle.std.specs.Prelude.{Bool, List, [], codes, if◌then◌else◌}
 use Rattle.std.specs.List.{flat_map}
 use Rattle.std.specs.Option.{option_map_or}
 use Rattle.std.specs.Str.{str_eq_ignore_ascii_case}
-use Rattle.cdni_base.specs.declared.endpoint.Endpoint.{Endpoint}
-use Rattle.cdni_base.specs.declared.target.SourceItem.{SourceItem}
+use Rattle.targets.specs.declared.endpoint.Endpoint.{Endpoint}
+use Rattle.cdni_base.specs.declared.source_item.SourceItem.{SourceItem}
 use Rattle.metadata_objects.specs.declared.generic.Generic.{Generic}
 use Rattle.inheritance.specs.Held.{sources_of}
 

@@ -2,11 +2,11 @@
 use Rattle.std.specs.Prelude.{◌≡◌, ℕ, Bool, true, false, List, [], ◌∷◌, codes, None, Some}
 use Rattle.std.specs.Option.{option_or, option_map, option_map_or, option_and_then}
 use Rattle.std.specs.declared.option.Option.{Option}
-use Rattle.cdni_base.specs.declared.endpoint.Endpoint.{Endpoint}
+use Rattle.targets.specs.declared.endpoint.Endpoint.{Endpoint}
 use Rattle.cdni_base.specs.declared.rule.Rule.{Rule}
 use Rattle.cdni_base.specs.declared.rule.Rule.TheVariants as rule
-use Rattle.cdni_base.specs.declared.target.Protocol.{Protocol}
-use Rattle.cdni_base.specs.declared.target.Protocol.TheVariants.{Http, Https}
+use Rattle.targets.specs.declared.target.Protocol.{Protocol}
+use Rattle.targets.specs.declared.target.Protocol.TheVariants.{Http, Https}
 use Rattle.location_acl.specs.Acl as location
 use Rattle.location_acl.specs.declared.footprint.Place.{Place}
 use Rattle.protocol_acl.specs.Acl as protocol

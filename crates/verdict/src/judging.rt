@@ -91,10 +91,13 @@ fn time_rule(effective: &Effective, moment: Moment) -> Option<Rule>
 fn protocol_rule(effective: &Effective, protocol: Protocol) -> Option<Rule>
     ensures { result ≡ protocol_rule effective.now protocol }
 {
-    match effective.protocol()?.decide(protocol_name(protocol)) {
-        (true, _) => None,
-        (false, rule) => Some(Rule::Protocol { rule }),
+    let name = protocol_name(protocol);
+    let acl = effective.protocol()?;
+    let (allowed, rule) = acl.decide(name);
+    if allowed {
+        return None;
     }
+    Some(Rule::Protocol { rule })
 }
 
 fn protocol_name(protocol: Protocol) -> &'static [u8]

@@ -1,6 +1,6 @@
 //! What the definitions mean, as laws above them. Each function does nothing: its contract is the law.
 ghost use Rattle.std.specs.Prelude.{◌≡◌, ◌↔◌, ℕ, List, None};
-ghost use Rattle.cdni_base.specs.declared.target.Protocol.{Protocol};
+ghost use Rattle.targets.specs.declared.target.Protocol.{Protocol};
 ghost use Rattle.location_acl.specs.declared.footprint.Place.{Place};
 ghost use Rattle.metadata_objects.specs.declared.generic.Generic.{Generic};
 ghost use Rattle.inheritance.specs.Held.{location_of, time_of, protocol_of};

@@ -1,6 +1,6 @@
 use Rattle.std.proofs.Common.{ap, length, arith, append_assoc}
 use Rattle.std.proofs.lemmas.List.{map-append}
-use Rattle.metadata_objects.specs.Tree.{level_view}
+use Rattle.metadata_objects.specs.LevelData.{level_view}
 use Rattle.inheritance.proofs.Chains.{arrays_more, arrays_last}
 use Rattle.inheritance.proofs.chain.arrays.Goals as goal
 

@@ -1,5 +1,5 @@
 use Rattle.std.proofs.Common.{◌≡◌, ◌++◌, length, map}
-use Rattle.metadata_objects.specs.Tree.{level_view}
+use Rattle.metadata_objects.specs.LevelData.{level_view}
 use Rattle.inheritance.specs.Chain.{arrays_at}
 use Rattle.inheritance.proofs.chain.arrays.Given as goal
 

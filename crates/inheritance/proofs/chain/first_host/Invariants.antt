@@ -1,6 +1,6 @@
 use Rattle.std.proofs.Common.{◌≡◌, drop}
 use Rattle.std.specs.List.{find}
-use Rattle.metadata_objects.specs.Tree.{hosts_view}
+use Rattle.metadata_objects.specs.LevelData.{hosts_view}
 use Rattle.inheritance.specs.Chain.{matches_target}
 use Rattle.inheritance.proofs.chain.first_host.Given as goal
 

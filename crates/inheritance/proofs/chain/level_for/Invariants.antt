@@ -1,5 +1,5 @@
 use Rattle.std.proofs.Common.{◌≡◌, drop}
-use Rattle.metadata_objects.specs.Tree.{branches_of, paths_view}
+use Rattle.metadata_objects.specs.LevelData.{branches_of, paths_view}
 use Rattle.inheritance.specs.Chain.{first_match}
 use Rattle.inheritance.proofs.chain.level_for.Given as goal
 

@@ -1,7 +1,7 @@
 use Rattle.std.proofs.Common.{◌≡◌, ℕ, length, sym, arith, subst}
-use Rattle.location_acl.specs.Place.{IsPlace}
+use Rattle.listing.specs.Fronts.{IsLongestFront}
 use Rattle.location_acl.specs.Block.{IsFitting}
-use Rattle.location_acl.proofs.BlockPlaces.{length_goes, length_place, most-le}
+use Rattle.location_acl.proofs.BlockFrontLemmas.{length_goes, length_place, most-le}
 use Rattle.location_acl.proofs.block.begun_length.Goals as goal
 
 pub returns-in_default : goal.returns-in_default
@@ -19,5 +19,5 @@ pub returns : goal.returns
 returns c =
     let i = c.digits.invariant in
     let ends : c.digits.at ≡ length c.args.text.now = omega arith in
-    subst (λ (k : ℕ). IsPlace (IsFitting c.args.six) c.args.text.now k) ends
+    subst (λ (k : ℕ). IsLongestFront (IsFitting c.args.six) c.args.text.now k) ends
     (length_place c.args.six c.args.text.now c.digits.at c.digits.number i.few (omega arith) i.digits i.number i.most (λ more. absurd (omega arith)))

@@ -1,9 +1,9 @@
 use Rattle.std.proofs.Common.{ap, sym, Option, length, arith, ◌≡◌}
 use Rattle.std.specs.Prelude.{option_and_then}
 use Rattle.location_acl.specs.declared.dotted.Dotted.{Dotted}
-use Rattle.location_acl.specs.Reading.{dotted_run, dotted_of}
+use Rattle.location_acl.specs.Dotted.{dotted_run, dotted_of}
 use Rattle.location_acl.proofs.DottedLemmas.{dotted_completes}
-use Rattle.location_acl.proofs.PlaceLemmas.{stops, runs_out}
+use Rattle.location_acl.proofs.FrontLemmas.{stops, runs_out}
 use Rattle.location_acl.proofs.dotted.read.Goals as goal
 
 pub returns-in_default-clause-place : goal.returns-in_default-clause-place

@@ -1,5 +1,5 @@
 use Rattle.std.proofs.Common.{◌≡◌, ℕ, List, ◌++◌, take, drop}
-use Rattle.location_acl.specs.Reading.{dotted_run, dotted_of}
+use Rattle.location_acl.specs.Dotted.{dotted_run, dotted_of}
 use Rattle.location_acl.proofs.dotted.read.Given as goal
 
 -- the front is that of the bytes so far

@@ -1,9 +1,9 @@
 use Rattle.std.proofs.Common.{ap, sym, Option, length, arith, ◌≡◌}
 use Rattle.std.specs.Prelude.{option_and_then}
 use Rattle.location_acl.specs.declared.six.Six.{Six}
-use Rattle.location_acl.specs.Reading.{six_run, six_of}
+use Rattle.location_acl.specs.Six.{six_run, six_of}
 use Rattle.location_acl.proofs.AddressLemmas.{six_completes}
-use Rattle.location_acl.proofs.PlaceLemmas.{stops, runs_out}
+use Rattle.location_acl.proofs.FrontLemmas.{stops, runs_out}
 use Rattle.location_acl.proofs.six.read.Goals as goal
 
 pub returns-in_default-clause-place : goal.returns-in_default-clause-place

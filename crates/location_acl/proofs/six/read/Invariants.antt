@@ -1,5 +1,5 @@
 use Rattle.std.proofs.Common.{◌≡◌, ℕ, List, ◌++◌, take, drop}
-use Rattle.location_acl.specs.Reading.{six_run, six_of, IsSound}
+use Rattle.location_acl.specs.Six.{six_run, six_of, IsSound}
 use Rattle.location_acl.proofs.six.read.Given as goal
 
 -- the front is that of the bytes so far

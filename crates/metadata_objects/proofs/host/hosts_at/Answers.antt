@@ -3,7 +3,7 @@ use Rattle.std.proofs.lemmas.Result.{err_from_is_err_and}
 use Rattle.std.proofs.Common.{map}
 use Rattle.serde_json.specs.View.{items_of}
 use Rattle.metadata_objects.specs.Host.{host_match_of, hosts_of}
-use Rattle.metadata_objects.specs.Tree.{hosts_view}
+use Rattle.metadata_objects.specs.LevelData.{hosts_view}
 use Rattle.metadata_objects.proofs.Loops.{front_none, goes_on, ends, is_done}
 use Rattle.metadata_objects.proofs.host.hosts_at.Goals as goal
 

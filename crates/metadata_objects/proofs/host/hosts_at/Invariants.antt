@@ -2,7 +2,7 @@ use Rattle.std.proofs.Common.{◌≡◌, drop, map}
 use Rattle.serde_json.specs.View.{items_of}
 use Rattle.metadata_objects.specs.Reading.{all_of}
 use Rattle.metadata_objects.specs.Host.{host_match_of, hosts_of}
-use Rattle.metadata_objects.specs.Tree.{hosts_view}
+use Rattle.metadata_objects.specs.LevelData.{hosts_view}
 use Rattle.metadata_objects.proofs.Loops.{with_front}
 use Rattle.metadata_objects.proofs.host.hosts_at.Given as goal
 

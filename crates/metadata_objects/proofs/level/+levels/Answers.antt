@@ -4,7 +4,7 @@ use Rattle.std.proofs.lemmas.Result.{err_from_is_err_and}
 use Rattle.serde_json.specs.View.{items_of}
 use Rattle.metadata_objects.specs.Level.{path_match_of}
 use Rattle.metadata_objects.specs.Reading.{all_of}
-use Rattle.metadata_objects.specs.Tree.{paths_view}
+use Rattle.metadata_objects.specs.LevelData.{paths_view}
 use Rattle.metadata_objects.proofs.Loops.{goes_on, ends, is_done}
 use Rattle.metadata_objects.proofs.Nesting.{some_left, is_fault, uncounted, too_deep}
 use Rattle.metadata_objects.proofs.level.+levels.Goals as goal

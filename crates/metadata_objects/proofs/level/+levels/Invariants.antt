@@ -2,7 +2,7 @@ use Rattle.std.proofs.Common.{◌≡◌, ◌+◌, ◌*◌, drop, map}
 use Rattle.serde_json.specs.View.{items_of}
 use Rattle.metadata_objects.specs.Level.{path_match_of}
 use Rattle.metadata_objects.specs.Reading.{all_of}
-use Rattle.metadata_objects.specs.Tree.{paths_view}
+use Rattle.metadata_objects.specs.LevelData.{paths_view}
 use Rattle.metadata_objects.proofs.Loops.{with_front}
 use Rattle.metadata_objects.proofs.level.+levels.Given as goal
 

@@ -4,6 +4,3 @@ use Rattle.turn_cell.proofs.tests.note_slowly.Given as goal
 
 abbrev pub invariant-loop-entry : goal.invariant-loop-entry
 invariant-loop-entry g l = record { cell : IsOf l.cell l.pass; numbers : numbers_of l.pass ≡ numbers_of l.initial.pass }
-
-abbrev pub ghost-give : goal.ghost-give
-ghost-give g a = a.self.value.entries.items

@@ -1,7 +1,7 @@
 use Rattle.std.proofs.Common.{◌∷◌, length, length-append, ap, arith, sym, ◌∙◌, refl}
 use Rattle.location_acl.proofs.PartLemmas.{parts_are, front_is_free, text_is_free}
 use Rattle.location_acl.proofs.BlockLemmas.{no_cut, no_base, no_length, parts_have}
-use Rattle.location_acl.proofs.BlockPlaces.{place_without, place_before, place_behind}
+use Rattle.location_acl.proofs.BlockFrontLemmas.{place_without, place_before, place_behind}
 use Rattle.location_acl.proofs.block.Block.read.Goals as goal
 
 pub overflow_sub-result : goal.overflow_sub-result

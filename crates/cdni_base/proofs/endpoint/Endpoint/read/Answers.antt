@@ -1,9 +1,0 @@
-use Rattle.cdni_base.proofs.EndpointLemmas.{endpoint_answers}
-use Rattle.cdni_base.proofs.FrontLemmas.{endpoint_stands}
-use Rattle.cdni_base.proofs.endpoint.Endpoint.read.Goals as goal
-
-pub returns-clause-grammar : goal.returns-clause-grammar
-returns-clause-grammar c = endpoint_answers _ _ c.read_endpoint.ensures
-
-pub returns-clause-place : goal.returns-clause-place
-returns-clause-place c = endpoint_stands _ _ c.read_endpoint.ensures

@@ -1,9 +1,0 @@
-use Rattle.cdni_base.proofs.TargetFronts.{target_stands}
-use Rattle.cdni_base.proofs.TargetLemmas.{target_answers}
-use Rattle.cdni_base.proofs.target.Target.read.Goals as goal
-
-pub returns-clause-grammar : goal.returns-clause-grammar
-returns-clause-grammar c = target_answers _ _ _ _ c.read_target.ensures
-
-pub returns-clause-place : goal.returns-clause-place
-returns-clause-place c = target_stands _ _ _ _ c.read_target.ensures

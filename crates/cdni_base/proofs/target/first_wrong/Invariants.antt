@@ -1,6 +1,0 @@
-use Rattle.std.proofs.Common.{◌≡◌, drop}
-use Rattle.cdni_base.specs.Target.{first_wrong}
-use Rattle.cdni_base.proofs.target.first_wrong.Given as goal
-
-abbrev pub invariant-bytes : goal.invariant-bytes
-invariant-bytes l = first_wrong l.at (drop l.at l.text) ≡ first_wrong l.from (drop l.from l.text)

@@ -1,0 +1,4 @@
+pub mod Endpoint
+pub mod Fronts
+pub mod Grammar
+pub mod Target

@@ -1,6 +1,12 @@
 pub mod Causes
-pub mod Feed
+pub mod Clock
+pub mod ListClock
+pub mod MemorySink
+pub mod MemorySource
+pub mod Portions
 pub mod Sink
 pub mod Source
 pub mod Status
+pub mod StdStreams
+pub mod WallClock
 pub mod Write

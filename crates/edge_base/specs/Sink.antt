@@ -1,5 +1,5 @@
 -- What one write to a sink did.
-use Rattle.std.specs.Prelude.{◌≡◌, ℕ, ◌≤◌, List, take}
+use Rattle.std.specs.Prelude.{◌≡◌, ◌≢◌, ℕ, ◌≤◌, List, take}
 use Rattle.std.specs.declared.option.Option.{Option}
 use Rattle.std.specs.Io.KnownBytes.{Appends, Keeps}
 use Rattle.edge_base.specs.declared.sink.Put.{Put}
@@ -16,7 +16,8 @@ abbrev pub Writes : Option (List ℕ) → Option (List ℕ) → List ℕ → Put
 Writes old new piece (put.Some n) = Appends old new (take n piece)
 Writes old new piece put.Failed = Keeps old new
 
--- the count of faults did not fall, and rose where the write failed
+-- the count of faults did not fall; it rose where the write failed, and is the same where it did not
 pub record HasWriteCause (before now : ℕ) (result : Put) : Type 0 where
   pub later : before ≤ now
   pub failed : result ≡ put.Failed → Rose before now
+  pub answered : result ≢ put.Failed → now ≡ before

@@ -1,5 +1,5 @@
 -- What one read of a source did.
-use Rattle.std.specs.Prelude.{◌≡◌, ℕ, ◌≤◌, List, take}
+use Rattle.std.specs.Prelude.{◌≡◌, ◌≢◌, ℕ, ◌≤◌, List, take}
 use Rattle.std.specs.declared.option.Option.{Option}
 use Rattle.std.specs.Io.KnownBytes.{Consumes, Keeps, IsAtEnd}
 use Rattle.edge_base.specs.declared.source.Took.{Took}
@@ -18,7 +18,8 @@ Reads old new buf (took.Some n) = Consumes old new (take n buf)
 Reads old new buf took.End = IsAtEnd new × Keeps old new
 Reads old new buf took.Failed = Keeps old new
 
--- the count of faults did not fall, and rose where the read failed
+-- the count of faults did not fall; it rose where the read failed, and is the same where it did not
 pub record HasReadCause (before now : ℕ) (result : Took) : Type 0 where
   pub later : before ≤ now
   pub failed : result ≡ took.Failed → Rose before now
+  pub answered : result ≢ took.Failed → now ≡ before

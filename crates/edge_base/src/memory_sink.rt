@@ -1,8 +1,9 @@
 //! A sink in memory.
 
 ghost use Rattle.std.specs.Prelude.{◌≡◌, [], IfOk};
-ghost use Rattle.edge_base.specs.Feed.{Basin};
+ghost use Rattle.edge_base.specs.MemorySink.{Basin};
 
+use crate::causes::count_fault;
 use crate::portions::Portions;
 use crate::sink::{Put, Sink};
 use std::alloc::{AllocError, Global};
@@ -18,7 +19,7 @@ pub struct MemorySink {
 }
 
 impl Model for MemorySink {
-    ghost use Rattle.edge_base.specs.Feed.{Basin};
+    ghost use Rattle.edge_base.specs.MemorySink.{Basin};
 
     ghost Value = { Basin };
 
@@ -58,13 +59,22 @@ impl MemorySink {
 }
 
 impl Sink for MemorySink {
-    ghost use Rattle.std.specs.Prelude.{Some};
+    ghost use Rattle.std.specs.Prelude.{◌<◌, length, Some};
+    ghost use Rattle.edge_base.specs.MemorySink.{PutsByList};
+    ghost use Rattle.edge_base.specs.Sink.{IsPutCount, Writes, HasWriteCause};
 
     ghost held = { λ s. Some s.held };
 
     ghost faults = { λ s. s.faults };
 
-    fn write(&mut self, piece: &[u8]) -> Put {
+    /// Takes as much as its number for this call says, and fails where that is 0 or no memory is found.
+    fn write(&mut self, piece: &[u8]) -> Put
+        requires { 0 < length piece.now }
+        ensures count { IsPutCount (length piece.now) result }
+        ensures list { PutsByList self.old self.new piece.now result }
+        ensures bytes { Writes (Some self.old.held) (Some self.new.held) piece.now result }
+        ensures cause { HasWriteCause self.old.faults self.new.faults result }
+    {
         let count = self.takes.next(piece.len());
         if count > 0 {
             match self.held.extend_from_slice(&piece[..count]) {
@@ -72,7 +82,7 @@ impl Sink for MemorySink {
                 Err(_) => {}
             }
         }
-        self.faults = self.faults.saturating_add(1);
+        self.faults = count_fault(self.faults);
         Put::Failed
     }
 }

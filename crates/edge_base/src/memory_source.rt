@@ -1,8 +1,9 @@
 //! A source in memory.
 
 ghost use Rattle.std.specs.Prelude.{◌≡◌, ◌+◌, ◌≤◌, ◌++◌, length, take, drop, IfOk};
-ghost use Rattle.edge_base.specs.Feed.{Feed};
+ghost use Rattle.edge_base.specs.MemorySource.{Feed};
 
+use crate::causes::count_fault;
 use crate::portions::Portions;
 use crate::source::{Source, Took};
 use std::alloc::{AllocError, Global};
@@ -21,7 +22,7 @@ pub struct MemorySource {
 impl Model for MemorySource {
     ghost use Rattle.std.specs.Prelude.{◌≤◌, drop};
     ghost use Rattle.std.specs.Vec.{vec_len};
-    ghost use Rattle.edge_base.specs.Feed.{Feed};
+    ghost use Rattle.edge_base.specs.MemorySource.{Feed};
 
     ghost Value = { Feed };
 
@@ -59,7 +60,7 @@ impl MemorySource {
 
 impl Source for MemorySource {
     ghost use Rattle.std.specs.Prelude.{◌≡◌, ◌<◌, length, Some};
-    ghost use Rattle.edge_base.specs.Feed.{given};
+    ghost use Rattle.edge_base.specs.MemorySource.{given, after_read};
     ghost use Rattle.edge_base.specs.Source.{IsCount, Reads, HasReadCause};
 
     ghost left = { λ s. Some s.left };
@@ -70,13 +71,14 @@ impl Source for MemorySource {
     fn read(&mut self, buf: &mut [u8]) -> Took
         requires { 0 < length buf.old }
         ensures answer { result ≡ given (length buf.old) self.old }
+        ensures after { self.new ≡ after_read (length buf.old) self.old }
         ensures count { IsCount (length buf.new) result }
         ensures bytes { Reads (Some self.old.left) (Some self.new.left) buf.new result }
         ensures cause { HasReadCause self.old.faults self.new.faults result }
     {
         let portion = self.gives.next(buf.len());
         if portion == 0 {
-            self.faults = self.faults.saturating_add(1);
+            self.faults = count_fault(self.faults);
             return Took::Failed;
         }
         let left = self.bytes.len() - self.at;

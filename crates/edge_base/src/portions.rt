@@ -1,7 +1,7 @@
 //! How much each call of a source or sink in memory moves.
 
 ghost use Rattle.std.specs.Prelude.{◌≡◌, ◌≤◌, drop, IfOk};
-ghost use Rattle.edge_base.specs.Feed.{portion};
+ghost use Rattle.edge_base.specs.Portions.{portion};
 
 use std::alloc::{AllocError, Global};
 use std::marker::Model;

@@ -42,13 +42,22 @@ impl SteadySource {
 }
 
 impl Source for SteadySource {
-    ghost use Rattle.std.specs.Prelude.{Some};
+    ghost use Rattle.std.specs.Prelude.{◌==◌, ◌<◌, drop, length, min, if◌then◌else◌, Some};
+    ghost use Rattle.edge_base.specs.Source.{IsCount, Reads, HasReadCause};
 
     ghost left = { λ s. Some s };
 
     ghost faults = { λ _. 0 };
 
-    fn read(&mut self, buf: &mut [u8]) -> Took {
+    /// Gives as much as there is room for, as far as it is left.
+    fn read(&mut self, buf: &mut [u8]) -> Took
+        requires { 0 < length buf.old }
+        ensures answer { result ≡ (if length self.old == 0 then Took.End else Took.Some (min (length buf.old) (length self.old))) }
+        ensures rest { self.new ≡ drop (length buf.old) self.old }
+        ensures count { IsCount (length buf.new) result }
+        ensures bytes { Reads (Some self.old) (Some self.new) buf.new result }
+        ensures cause { HasReadCause 0 0 result }
+    {
         let left = self.bytes.len() - self.at;
         if left == 0 {
             return Took::End;
@@ -81,13 +90,21 @@ impl SteadySink {
 }
 
 impl Sink for SteadySink {
-    ghost use Rattle.std.specs.Prelude.{None};
+    ghost use Rattle.std.specs.Prelude.{◌+◌, ◌<◌, length, min, None};
+    ghost use Rattle.edge_base.specs.Sink.{IsPutCount, HasWriteCause};
 
     ghost held = { λ _. None };
 
     ghost faults = { λ _. 0 };
 
-    fn write(&mut self, piece: &[u8]) -> Put {
+    /// Takes the whole piece.
+    fn write(&mut self, piece: &[u8]) -> Put
+        requires { 0 < length piece.now }
+        ensures answer { result ≡ Put.Some (length piece.now) }
+        ensures number { self.new.count ≡ min (self.old.count + length piece.now) u64.MAX }
+        ensures count { IsPutCount (length piece.now) result }
+        ensures cause { HasWriteCause 0 0 result }
+    {
         self.count = self.count.saturating_add(piece.len() as u64);
         Put::Some(piece.len())
     }

@@ -1,6 +1,6 @@
 //! Writing a whole piece.
 
-ghost use Rattle.std.specs.Prelude.{◌≡◌, ◌≤◌, false, length, take};
+ghost use Rattle.std.specs.Prelude.{◌≡◌, ◌<◌, ◌≤◌, true, false, length, take};
 ghost use Rattle.std.specs.Io.KnownBytes.{Appends};
 ghost use Rattle.edge_base.specs.Write.{HasCause};
 
@@ -19,6 +19,7 @@ pub struct Written {
 pub fn write_counted<K: Sink>(sink: &mut K, bytes: &[u8]) -> Written
     ensures within { result.taken ≤ length bytes.now }
     ensures whole { result.fault ≡ false → result.taken ≡ length bytes.now }
+    ensures cut { result.fault ≡ true → result.taken < length bytes.now }
     ensures held { Appends (K.held sink.old) (K.held sink.new) (take result.taken bytes.now) }
     ensures cause { HasCause (K.faults sink.old) (K.faults sink.new) result.fault }
 {

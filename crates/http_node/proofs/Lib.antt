@@ -1,5 +1,7 @@
-pub mod Feeds
-pub mod Places
-pub mod Running
-pub mod Scripts
-pub mod Splits
+mod AheadLemmas
+mod BatchLemmas
+mod GrammarLemmas
+mod HistoryLemmas
+mod NumberLemmas
+mod ReplayLemmas
+mod ScriptLemmas

@@ -8,24 +8,28 @@ use Rattle.json_read.specs.declared.fault.FieldCause.{FieldCause}
 use Rattle.json_read.specs.declared.fault.FieldCause.TheVariants.{Missing, WrongKind, OutOfRange}
 use Rattle.metadata_objects.specs.declared.fault.MetaFault.{MetaFault}
 use Rattle.metadata_objects.specs.declared.fault.MetaFault.TheVariants as meta_fault
+use Rattle.targets.specs.declared.byte.TheConstants.{COLON}
+use Rattle.targets.specs.declared.target.TheConstants.{HTTP_PORT}
 use Rattle.http_node.specs.declared.call.Reply.{Reply}
 use Rattle.http_node.specs.declared.call.Reply.TheVariants as reply
+use Rattle.http_node.specs.declared.grammar.TheConstants.{SPACE}
+use Rattle.http_node.specs.declared.lines.TheConstants.{LINE_FEED}
 
 -- a word, a space and a number, ended
 abbrev pub numbered : List ℕ → ℕ → List ℕ
-numbered word n = word ++ 32 ∷ [] ++ decimal n ++ 10 ∷ []
+numbered word n = word ++ SPACE ∷ [] ++ decimal n ++ LINE_FEED ∷ []
 
--- the port, 80 where it is absent
-abbrev pub port_or_80 : Option ℕ → ℕ
-port_or_80 None = 80
-port_or_80 (Some port) = port
+-- the port, that of HTTP where it is absent
+abbrev pub port_or_http : Option ℕ → ℕ
+port_or_http None = HTTP_PORT
+port_or_http (Some port) = port
 
 -- a space, the host, `:` and the port
-abbrev pub endpoint_text : Endpoint → List ℕ
-endpoint_text endpoint = 32 ∷ [] ++ endpoint.host.0 ++ 58 ∷ [] ++ decimal (port_or_80 endpoint.port)
+abbrev pub endpoint_word : Endpoint → List ℕ
+endpoint_word endpoint = SPACE ∷ [] ++ endpoint.host ++ COLON ∷ [] ++ decimal (port_or_http endpoint.port)
 
 unfoldable pub plan_text : List Endpoint → List ℕ
-plan_text plan = flat_map endpoint_text plan
+plan_text plan = flat_map endpoint_word plan
 
 -- why a field does not read
 abbrev pub cause_text : FieldCause → List ℕ
@@ -38,7 +42,7 @@ abbrev pub fault_text : MetaFault → List ℕ
 fault_text (meta_fault.TooLong len) = codes "too-long " ++ decimal len
 fault_text meta_fault.NotJson = codes "not-json"
 fault_text (meta_fault.Link path) = codes "link " ++ path
-fault_text (meta_fault.Field field) = codes "field " ++ field.path ++ 32 ∷ [] ++ cause_text field.cause
+fault_text (meta_fault.Field field) = codes "field " ++ field.path ++ SPACE ∷ [] ++ cause_text field.cause
 fault_text (meta_fault.TooMany n) = codes "too-many " ++ decimal n
 fault_text (meta_fault.TooDeep n) = codes "too-deep " ++ decimal n
 fault_text meta_fault.Memory = []
@@ -46,12 +50,12 @@ fault_text meta_fault.Memory = []
 -- a refresh brought nothing, since its metadata did not read or there is none
 abbrev pub failed_line : Option MetaFault → List ℕ
 failed_line None = codes "failed\n"
-failed_line (Some fault) = codes "failed " ++ fault_text fault ++ 10 ∷ []
+failed_line (Some fault) = codes "failed " ++ fault_text fault ++ LINE_FEED ∷ []
 
 -- the answer of a reply, where this was noted of the call
 unfoldable pub answer_line : Reply → Option MetaFault → List ℕ
-answer_line (reply.Denied delivery rule) said = codes "denied " ++ decimal delivery ++ 32 ∷ [] ++ decimal (rule_status rule) ++ 32 ∷ [] ++ rule_text rule ++ 10 ∷ []
-answer_line (reply.Miss delivery fetch plan) said = codes "miss " ++ decimal delivery ++ 32 ∷ [] ++ decimal fetch ++ plan_text plan ++ 10 ∷ []
+answer_line (reply.Denied delivery rule) said = codes "denied " ++ decimal delivery ++ SPACE ∷ [] ++ decimal (rule_status rule) ++ SPACE ∷ [] ++ rule_text rule ++ LINE_FEED ∷ []
+answer_line (reply.Miss delivery fetch plan) said = codes "miss " ++ decimal delivery ++ SPACE ∷ [] ++ decimal fetch ++ plan_text plan ++ LINE_FEED ∷ []
 answer_line (reply.Full count) said = numbered (codes "full") count
 answer_line (reply.NotOpen number) said = numbered (codes "not-open") number
 answer_line (reply.Due refresh) said = numbered (codes "due") refresh

@@ -1,40 +1,20 @@
--- How a replay ends.
-use Rattle.std.specs.Prelude.{◌≡◌, ℕ, Bool, false, List, [], ◌∷◌, take, codes, bytes_eq, None, Some, String, string_bytes}
+-- How a command ends.
+use Rattle.std.specs.Prelude.{◌≡◌, ℕ, Bool, false, List, [], ◌∷◌, ◌++◌, codes, bytes_eq, None, Some, ◌⊎◌, String, string_bytes}
 use Rattle.std.specs.declared.option.Option.{Option}
 use Rattle.std.specs.declared.alloc.Global.{Global}
-use Rattle.std.specs.Io.KnownBytes.{Appends, IsAtEnd}
+use Rattle.std.specs.Io.KnownBytes.{Appends, Consumes, IsAtEnd}
 use Rattle.edge_base.specs.declared.status.Status.{Status}
 use Rattle.edge_base.specs.declared.status.Status.TheVariants as status
 use Rattle.http_node.specs.Note.{note_of}
-use Rattle.http_node.specs.Script.{answers}
-use Rattle.http_node.specs.declared.replaying.ReplayEnd.{ReplayEnd}
-use Rattle.http_node.specs.declared.replaying.ReplayEnd.TheVariants as replay_end
+use Rattle.http_node.specs.Script.{answers, answers_read, IsTold, AppendsFront, AppendsPart}
+use Rattle.http_node.specs.declared.script.ReplayEnd.{ReplayEnd}
+use Rattle.http_node.specs.declared.script.ReplayEnd.TheVariants as replay_end
 
 -- the one command: the word `replay`
 abbrev pub is_replay : List (String Global) → Bool
 is_replay [] = false
 is_replay (word ∷ []) = bytes_eq (string_bytes word) (codes "replay")
 is_replay (word ∷ next ∷ words) = false
-
--- where the input tells its bytes, they are these
-abbrev pub IsTold : Option (List ℕ) → List ℕ → Type 0
-IsTold None bytes = Unit {0}
-IsTold (Some told) bytes = bytes ≡ told
-
--- a front of the text was added
-abbrev pub AppendsFront : Option (List ℕ) → Option (List ℕ) → List ℕ → Type 0
-AppendsFront old new text = (n : ℕ) × Appends old new (take n text)
-
--- what the end of a replay says of the script, of what is left of it, and of the output
-abbrev pub EndsAt : List ℕ → Option (List ℕ) → Option (List ℕ) → Option (List ℕ) → ReplayEnd → Type 0
-EndsAt script left old new replay_end.Done = IsAtEnd left × ((answers script).stops ≡ None) × Appends old new (answers script).text
-EndsAt script left old new (replay_end.NotALine line at) = ((answers script).stops ≡ Some (line, at)) × Appends old new (answers script).text
-EndsAt script left old new replay_end.ReadFault = AppendsFront old new (answers script).text
-EndsAt script left old new replay_end.WriteFault = AppendsFront old new (answers script).text
-EndsAt script left old new replay_end.Memory = AppendsFront old new (answers script).text
-
-abbrev pub Ends : Option (List ℕ) → Option (List ℕ) → Option (List ℕ) → Option (List ℕ) → ReplayEnd → Type 0
-Ends before after old new result = (script : List ℕ) × IsTold before script × EndsAt script after old new result
 
 -- the status of the end of a replay
 abbrev pub status_of : ReplayEnd → Status
@@ -54,10 +34,30 @@ StatusAt script left old new status.Done = IsAtEnd left × ((answers script).sto
 StatusAt script left old new status.Script = Stops (answers script).stops × Appends old new (answers script).text
 StatusAt script left old new status.Usage = ⊥
 StatusAt script left old new status.ReadFault = AppendsFront old new (answers script).text
-StatusAt script left old new status.WriteFault = AppendsFront old new (answers script).text
+StatusAt script left old new status.WriteFault = AppendsPart old new (answers script).text
 StatusAt script left old new status.Memory = AppendsFront old new (answers script).text
 StatusAt script left old new status.Outside = ⊥
 
 -- the same of the script that the input tells, and the note of the status was given so
 abbrev pub Replays : Option (List ℕ) → Option (List ℕ) → Option (List ℕ) → Option (List ℕ) → (List ℕ → Type 0) → Status → Type 0
 Replays before after old new noted result = (script : List ℕ) × IsTold before script × StatusAt script after old new result × noted (note_of result (answers script).stops)
+
+-- what it says of the bytes that were read: at the end and at a failed read each line that was read whole is a script line and is
+-- answered; a line that is none was read whole, or the input ended in it; at a failed write not all of these answers were written
+abbrev pub ReadsAt : List ℕ → Option (List ℕ) → Option (List ℕ) → Option (List ℕ) → Status → Type 0
+ReadsAt bytes left old new status.Done = (answers_read bytes).stops ≡ None
+ReadsAt bytes left old new status.Script = Stops (answers_read bytes).stops ⊎ IsAtEnd left
+ReadsAt bytes left old new status.Usage = ⊥
+ReadsAt bytes left old new status.ReadFault = ((answers_read bytes).stops ≡ None) × Appends old new (answers_read bytes).text
+ReadsAt bytes left old new status.WriteFault = AppendsPart old new (answers_read bytes).text
+ReadsAt bytes left old new status.Memory = Unit {0}
+ReadsAt bytes left old new status.Outside = ⊥
+
+abbrev pub ReadsScript : Option (List ℕ) → Option (List ℕ) → Option (List ℕ) → Option (List ℕ) → Status → Type 0
+ReadsScript before after old new result = (bytes : List ℕ) × Consumes before after bytes × ReadsAt bytes after old new result
+
+-- where input and output tell: a line was read whole that is none, and every answer before it was written
+abbrev pub MeetsNone : Option (List ℕ) → Option (List ℕ) → Option (List ℕ) → Option (List ℕ) → Type 0
+MeetsNone (Some before) (Some after) (Some old) (Some new) =
+    (bytes : List ℕ) × (before ≡ bytes ++ after) × Stops (answers_read bytes).stops × (new ≡ old ++ (answers_read bytes).text)
+MeetsNone before after old new = ⊥

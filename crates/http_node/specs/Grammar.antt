@@ -1,25 +1,29 @@
 -- The grammar of a script's lines.
-use Rattle.std.specs.Prelude.{ℕ, ◌^◌, Bool, false, List, codes, bytes_eq, length, None, Some, Ok, Err, ◌==◌, ◌&&◌, ◌||◌, nat_lt, nat_le, if◌then◌else◌}
+use Rattle.std.specs.Prelude.{◌≡◌, ℕ, ◌^◌, ◌<◌, Bool, false, not, IsTrue, List, [], ◌∷◌, ◌++◌, codes, bytes_eq, decimal, length, None, Some, Ok, Err, ◌⊎◌, ◌==◌, ◌&&◌, ◌||◌, nat_lt, nat_le, if◌then◌else◌}
 use Rattle.std.specs.Char.{is_ascii_alphanumeric}
 use Rattle.std.specs.List.{list_all, list_any, slice_split}
-use Rattle.std.specs.Option.{option_map, is_some}
+use Rattle.std.specs.Option.{option_map}
 use Rattle.std.specs.Result.{result_ok}
 use Rattle.std.specs.declared.option.Option.{Option}
 use Rattle.listing.specs.Number.{number_of}
 use Rattle.listing.specs.Word.{◌>>=◌, parts_at}
+use Rattle.targets.specs.Grammar.{IsTarget}
 use Rattle.targets.specs.Target.{target_of}
+use Rattle.cdni_base.specs.Key.{KeyParts, key_of}
 use Rattle.cdni_base.specs.declared.asked.Asked.{Asked}
+use Rattle.cdni_base.specs.declared.key.Ignored.TheVariants as ignored
 use Rattle.targets.specs.declared.target.Protocol.{Protocol}
 use Rattle.targets.specs.declared.target.Protocol.TheVariants.{Http, Https}
 use Rattle.targets.specs.declared.target.Target.{Target}
-use Rattle.location_acl.specs.Footprint.{asn_of, country_of}
-use Rattle.location_acl.specs.Reading.{ip_of}
+use Rattle.location_acl.specs.Footprint.{asn_of, country_of, optional, IsNetwork, IsCountry}
+use Rattle.location_acl.specs.Ip.{IsAddress, ip_of}
 use Rattle.location_acl.specs.declared.footprint.Place.{Place}
 use Rattle.metadata_objects.specs.Host.{host_index_of_text}
 use Rattle.metadata_objects.specs.Reading.{Reading}
 use Rattle.metadata_objects.specs.LevelData.{Index}
-use Rattle.http_node.specs.Event.{Event, RefreshBegin, RefreshEnd, Admit, Noted}
+use Rattle.http_node.specs.Call.{Event, RefreshBegin, RefreshEnd, Admit, Noted}
 use Rattle.http_node.specs.History.{Entry}
+use Rattle.http_node.specs.declared.grammar.TheConstants.{SPACE, BAR, LONGEST_METHOD}
 
 -- a decimal number below the bound, without leading zeros
 unfoldable pub number_below : ℕ → List ℕ → Option ℕ
@@ -31,12 +35,17 @@ number_below bound text = number_of text >>= λ n. if nat_lt n bound then Some n
 abbrev pub url_target : List ℕ → Option Target
 url_target text = result_ok (target_of text None false)
 
-abbrev pub is_url : List ℕ → Bool
-is_url text = is_some (url_target text)
+-- the key of the target of a URL
+abbrev pub key_of_url : List ℕ → Option KeyParts
+key_of_url url = option_map (λ target. key_of target ignored.None) (url_target url)
 
--- URLs joined by bars
-abbrev pub are_urls : List ℕ → Bool
-are_urls text = list_all is_url (slice_split (λ byte. byte == 124) text)
+abbrev pub keys_of_urls : List (List ℕ) → Option (List KeyParts)
+keys_of_urls [] = Some []
+keys_of_urls (url ∷ urls) = key_of_url url >>= λ key. option_map (λ keys. key ∷ keys) (keys_of_urls urls)
+
+-- the keys of URLs joined by bars
+abbrev pub keys_of : List ℕ → Option (List KeyParts)
+keys_of text = keys_of_urls (slice_split (λ byte. byte == BAR) text)
 
 -- ---- the words of `get`
 
@@ -46,14 +55,10 @@ is_token_byte byte = is_ascii_alphanumeric byte || list_any (λ mark. byte == ma
 
 -- a token of 1 to 127 bytes
 unfoldable pub is_method : List ℕ → Bool
-is_method text = nat_lt 0 (length text) && nat_le (length text) 127 && list_all is_token_byte text
+is_method text = nat_lt 0 (length text) && nat_le (length text) LONGEST_METHOD && list_all is_token_byte text
 
 unfoldable pub protocol_of : List ℕ → Option Protocol
 protocol_of text = if bytes_eq text (codes "http/1.1") then Some Http else (if bytes_eq text (codes "https/1.1") then Some Https else None)
-
--- `-` for none, or what the text stands for
-abbrev pub optional : {A : Type 0} → (List ℕ → Option A) → List ℕ → Option (Option A)
-optional read text = if bytes_eq text (codes "-") then Some None else option_map Some (read text)
 
 -- the place of an address, of `-` or `as` and a number, and of `-` or two lower-case letters
 unfoldable pub place_at : List ℕ → List ℕ → List ℕ → Option Place
@@ -65,20 +70,20 @@ asked_of method protocol url = if is_method method then (protocol_of protocol >>
 
 -- METHOD PROTOCOL IP ASN CC URL
 unfoldable pub get_of : ℕ → List ℕ → Option Event
-get_of moment text = parts_at 32 text >>= λ method. parts_at 32 method.1 >>= λ protocol. parts_at 32 protocol.1 >>= λ address. parts_at 32 address.1 >>= λ network. parts_at 32 network.1 >>= λ country.
+get_of moment text = parts_at SPACE text >>= λ method. parts_at SPACE method.1 >>= λ protocol. parts_at SPACE protocol.1 >>= λ address. parts_at SPACE address.1 >>= λ network. parts_at SPACE network.1 >>= λ country.
     place_at address.0 network.0 country.0 >>= λ place. option_map (λ asked. Admit asked place moment) (asked_of method.0 protocol.0 country.1)
 
 -- ---- the other lines
 
--- the end of a refresh with the metadata that was read, or without, and then the fault is noted
-abbrev pub refreshed : ℕ → ℕ → Reading Index → Noted
-refreshed refresh moment (Ok index) = record { event = RefreshEnd refresh (Some index) moment; note = None }
-refreshed refresh moment (Err fault) = record { event = RefreshEnd refresh None moment; note = Some fault }
+-- the end of a refresh with the metadata that was read and the keys of its documents, or without, and then the fault is noted
+abbrev pub refreshed : ℕ → ℕ → List KeyParts → Reading Index → Noted
+refreshed refresh moment keys (Ok index) = record { event = RefreshEnd refresh (Some (record { index = index; resources = keys })) moment; note = None }
+refreshed refresh moment keys (Err fault) = record { event = RefreshEnd refresh None moment; note = Some fault }
 
 -- R URLS JSON
 unfoldable pub meta_of : ℕ → List ℕ → Option Noted
-meta_of moment text = parts_at 32 text >>= λ number. number_of number.0 >>= λ refresh. parts_at 32 number.1 >>= λ urls.
-    if are_urls urls.0 then Some (refreshed refresh moment (host_index_of_text urls.1)) else None
+meta_of moment text = parts_at SPACE text >>= λ number. number_of number.0 >>= λ refresh. parts_at SPACE number.1 >>= λ urls.
+    option_map (λ keys. refreshed refresh moment keys (host_index_of_text urls.1)) (keys_of urls.0)
 
 -- a call of which nothing is noted
 abbrev pub plain : Event → Noted
@@ -89,7 +94,7 @@ abbrev pub worded : ℕ → List ℕ × List ℕ → Option Noted
 worded moment word = if bytes_eq word.0 (codes "meta") then meta_of moment word.1 else (if bytes_eq word.0 (codes "get") then option_map plain (get_of moment word.1) else None)
 
 unfoldable pub call_of : ℕ → List ℕ → Option Noted
-call_of moment text = if bytes_eq text (codes "refresh") then Some (plain (RefreshBegin moment)) else (parts_at 32 text >>= worded moment)
+call_of moment text = if bytes_eq text (codes "refresh") then Some (plain (RefreshBegin moment)) else (parts_at SPACE text >>= worded moment)
 
 -- a script line: the pass that calls, and its call
 abbrev pub Scripted : Type 0
@@ -97,8 +102,99 @@ Scripted = ℕ × Noted
 
 -- PASS MOMENT and a call
 unfoldable pub line_of : List ℕ → Option Scripted
-line_of line = parts_at 32 line >>= λ pass. number_below (2 ^ 32) pass.0 >>= λ number. parts_at 32 pass.1 >>= λ moment. number_of moment.0 >>= λ at. option_map (λ noted. (number, noted)) (call_of at moment.1)
+line_of line = parts_at SPACE line >>= λ pass. number_below (2 ^ 32) pass.0 >>= λ number. parts_at SPACE pass.1 >>= λ moment. number_of moment.0 >>= λ at. option_map (λ noted. (number, noted)) (call_of at moment.1)
 
 -- the entry of a script line
 abbrev pub entry_of : Scripted → Entry
 entry_of line = (line.0, line.1.event)
+
+-- ---- what a line says, in the words of the grammar
+
+-- no byte is a space
+abbrev pub NoSpace : List ℕ → Type 0
+NoSpace word = IsTrue (list_all (λ byte. not (byte == SPACE)) word)
+
+-- these words, each with one space behind it, and then the rest
+abbrev pub IsWords : List (List ℕ) → List ℕ → List ℕ → Type 0
+IsWords [] rest text = text ≡ rest
+IsWords (word ∷ words) rest text = (behind : List ℕ) × (text ≡ word ++ SPACE ∷ behind) × NoSpace word × IsWords words rest behind
+
+-- the decimal text of a number, which is below 2 ^ 64
+abbrev pub IsNumber : List ℕ → ℕ → Type 0
+IsNumber text n = (text ≡ decimal n) × (n < 2 ^ 64)
+
+abbrev pub IsProtocol : List ℕ → Protocol → Type 0
+IsProtocol text Http = text ≡ codes "http/1.1"
+IsProtocol text Https = text ≡ codes "https/1.1"
+
+-- the client's address, network and country
+pub record IsPlace (address network country : List ℕ) (place : Place) : Type 0 where
+  pub ip : IsAddress address place.ip
+  pub asn : IsNetwork network place.asn
+  pub letters : IsCountry country place.country
+
+-- a request with a token of at most 127 bytes as its method, for an absolute URL
+pub record IsAsked (method protocol url : List ℕ) (asked : Asked) : Type 0 where
+  pub token : IsTrue (is_method method)
+  pub same : asked.method ≡ method
+  pub spoken : IsProtocol protocol asked.protocol
+  pub target : IsTarget url None false asked.target
+
+-- each of these is a URL, and its key stands at the same place, with the whole query
+abbrev pub AreKeys : List (List ℕ) → List KeyParts → Type 0
+AreKeys [] [] = Unit {0}
+AreKeys [] (key ∷ keys) = ⊥
+AreKeys (url ∷ urls) [] = ⊥
+AreKeys (url ∷ urls) (key ∷ keys) = ((target : Target) × IsTarget url None false target × (key ≡ key_of target ignored.None)) × AreKeys urls keys
+
+-- refresh
+abbrev pub SaysRefresh : ℕ → List ℕ → Noted → Type 0
+SaysRefresh moment text said = (text ≡ codes "refresh") × (said ≡ plain (RefreshBegin moment))
+
+-- meta R URLS JSON
+pub record SaysMeta (moment : ℕ) (text : List ℕ) (said : Noted) : Type 0 where
+  pub number : List ℕ
+  pub urls : List ℕ
+  pub json : List ℕ
+  pub refresh : ℕ
+  pub keys : List KeyParts
+  pub words : IsWords (codes "meta" ∷ number ∷ urls ∷ []) json text
+  pub numbered : IsNumber number refresh
+  pub joined : AreKeys (slice_split (λ byte. byte == BAR) urls) keys
+  pub call : said ≡ refreshed refresh moment keys (host_index_of_text json)
+
+-- get METHOD PROTOCOL IP ASN CC URL
+pub record SaysGet (moment : ℕ) (text : List ℕ) (said : Noted) : Type 0 where
+  pub method : List ℕ
+  pub protocol : List ℕ
+  pub address : List ℕ
+  pub network : List ℕ
+  pub country : List ℕ
+  pub url : List ℕ
+  pub asked : Asked
+  pub place : Place
+  pub words : IsWords (codes "get" ∷ method ∷ protocol ∷ address ∷ network ∷ country ∷ []) url text
+  pub asks : IsAsked method protocol url asked
+  pub placed : IsPlace address network country place
+  pub call : said ≡ plain (Admit asked place moment)
+
+-- one of the three calls
+abbrev pub SaysCall : ℕ → List ℕ → Noted → Type 0
+SaysCall moment text said = SaysRefresh moment text said ⊎ (SaysMeta moment text said ⊎ SaysGet moment text said)
+
+-- PASS MOMENT and a call
+pub record Says (line : List ℕ) (said : Scripted) : Type 0 where
+  pub pass : List ℕ
+  pub moment : List ℕ
+  pub call : List ℕ
+  pub at : ℕ
+  pub words : IsWords (pass ∷ moment ∷ []) call line
+  pub numbered : IsNumber pass said.0
+  pub small : said.0 < 2 ^ 32
+  pub timed : IsNumber moment at
+  pub called : SaysCall at call said.1
+
+-- what was read of a line is what it says, and nothing where it says nothing
+abbrev pub ReadsAs : List ℕ → Option Scripted → Type 0
+ReadsAs line (Some said) = Says line said
+ReadsAs line None = (said : Scripted) → Says line said → ⊥

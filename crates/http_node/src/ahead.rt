@@ -1,16 +1,17 @@
-//! Reading lines from any source, through a buffer that is read ahead.
+//! What is read ahead of the lines of a source.
 
-ghost use Rattle.std.specs.Prelude.{◌≡◌, ℕ, ◌<◌, ◌≤◌, [], length, take, drop, IfOk};
-ghost use Rattle.http_node.specs.Ahead.{Refills, TakesPiece, ReadsLine, HasLineCause};
+ghost use Rattle.std.specs.Prelude.{◌≡◌, ℕ, ◌<◌, ◌≤◌, true, false, [], length, take, drop, IfOk};
+ghost use Rattle.http_node.specs.Ahead.{EndsLine, Refills, TakesPiece, ReadsLine, HasLineCause};
 ghost use Rattle.edge_base.specs.Source.{HasReadCause};
 
+use crate::lines::{LINE_FEED, LINE_LIMIT};
 use edge_base::{Source, Took};
 use memchr::memchr;
 use std::alloc::{AllocError, Global};
 use std::marker::Model;
 
-/// A line of more bytes, its line feed counted, is none.
-const LINE_LIMIT: usize = 40000000;
+/// How many bytes are read at once, at most.
+const READ_SIZE: usize = 65_536;
 
 /// What reading a line gave.
 #[derive(Clone, Copy, Debug, PartialEq, Eq)]
@@ -40,10 +41,12 @@ pub enum Piece {
     Memory,
 }
 
-/// What was read ahead of the line that is read, which is seen as those bytes.
+/// What was read ahead, and the line before it where that stands whole in what was read.
 #[derive(Drop)]
 pub struct Ahead {
     bytes: Vec<u8>,
+    line_from: usize,
+    line_to: usize,
     from: usize,
     to: usize,
 }
@@ -51,32 +54,67 @@ pub struct Ahead {
 impl Model for Ahead {
     ghost use Rattle.std.specs.Prelude.{ℕ, ◌<◌, ◌≤◌, List, take, drop};
     ghost use Rattle.std.specs.Vec.{vec_len};
+    ghost use Rattle.http_node.specs.Lines.{Buffered};
 
-    ghost Value = { List ℕ };
+    ghost Value = { Buffered };
 
-    ghost view = { λ a. drop a.from (take a.to a.bytes.items) };
+    ghost view = { λ a. record { line = drop a.line_from (take a.line_to a.bytes.items); ahead = drop a.from (take a.to a.bytes.items) } };
 
-    ghost invariant = { λ a. (a.from ≤ a.to) × (a.to ≤ vec_len a.bytes) × (0 < vec_len a.bytes) };
+    ghost invariant = { λ a. (a.line_from ≤ a.line_to) × (a.line_to ≤ vec_len a.bytes) × (a.from ≤ a.to) × (a.to ≤ vec_len a.bytes)
+        × (0 < vec_len a.bytes) × (vec_len a.bytes ≤ 65536) };
 }
 
 impl Ahead {
-    /// Nothing read ahead yet, with room for 65,536 bytes.
+    /// Nothing read ahead yet, and no line.
     ///
     /// # Errors
     /// Want of memory.
     pub fn new(alloc: Global) -> Result<Ahead, AllocError>
-        ensures { IfOk result (λ a. a ≡ []) }
+        ensures { IfOk result (λ a. a ≡ record { line = []; ahead = [] }) }
     {
         Ok(Ahead {
-            bytes: vec![in alloc; 0; 65536]?,
+            bytes: vec![in alloc; 0; READ_SIZE]?,
+            line_from: 0,
+            line_to: 0,
             from: 0,
             to: 0,
         })
     }
 
+    /// The line before what is ahead, if it stands whole in what was read.
+    pub fn line(&self) -> &[u8]
+        ensures { result.now ≡ self.now.line }
+    {
+        &self.bytes[self.line_from..self.line_to]
+    }
+
+    // what is ahead
+    fn rest(&self) -> &[u8]
+        ensures value { result.now ≡ self.now.ahead }
+        ensures short { length result.now ≤ 65536 }
+    {
+        &self.bytes[self.from..self.to]
+    }
+
+    /// Takes the next line where it ends within what is ahead.
+    pub fn take_whole(&mut self) -> bool
+        ensures whole { result ≡ true → EndsLine self.old.ahead self.new.ahead self.new.line }
+        ensures none { result ≡ false → self.new ≡ self.old }
+    {
+        match memchr(LINE_FEED, self.rest()) {
+            Some(place) => {
+                self.line_from = self.from;
+                self.line_to = self.from + place;
+                self.from += place + 1;
+                true
+            }
+            None => false,
+        }
+    }
+
     /// Reads the next line of the source into `line`, without its line feed.
     pub fn next_line<S: Source>(&mut self, source: &mut S, line: &mut Vec<u8>) -> LineRead
-        ensures line { ReadsLine (S.left source.old) (S.left source.new) self.old self.new line.new.items result }
+        ensures line { ReadsLine (S.left source.old) (S.left source.new) self.old.ahead self.new.ahead line.new.items result }
         ensures cause { HasLineCause (S.faults source.old) (S.faults source.new) result }
     {
         line.clear();
@@ -97,12 +135,14 @@ impl Ahead {
 
     // reads once where nothing is ahead
     fn refill<S: Source>(&mut self, source: &mut S) -> Took
-        ensures refilled { Refills (S.left source.old) (S.left source.new) self.old self.new result }
+        ensures refilled { Refills (S.left source.old) (S.left source.new) self.old.ahead self.new.ahead result }
         ensures cause { HasReadCause (S.faults source.old) (S.faults source.new) result }
     {
         if self.from < self.to {
             return Took::Some(self.to - self.from);
         }
+        self.line_from = 0;
+        self.line_to = 0;
         self.from = 0;
         self.to = 0;
         let took = source.read(&mut self.bytes);
@@ -114,9 +154,9 @@ impl Ahead {
 
     // what is ahead, up to this many bytes
     fn window(&self, room: usize) -> &[u8]
-        ensures { result.now ≡ take room self.now }
+        ensures { result.now ≡ take room self.now.ahead }
     {
-        let front = &self.bytes[self.from..self.to];
+        let front = self.rest();
         if front.len() < room {
             front
         } else {
@@ -126,20 +166,20 @@ impl Ahead {
 
     // leaves out the first bytes of what is ahead
     fn skip(&mut self, count: usize)
-        requires { count ≤ length self.old }
-        ensures { self.new ≡ drop count self.old }
+        requires { count ≤ length self.old.ahead }
+        ensures { self.new.ahead ≡ drop count self.old.ahead }
     {
         self.from += count;
     }
 
     // moves what is ahead to the line, up to its end
     fn take_piece(&mut self, line: &mut Vec<u8>) -> Piece
-        requires some { 0 < length self.old }
-        requires room { length line.old.items < 40000000 }
-        ensures { TakesPiece self.old self.new line.old.items line.new.items result }
+        requires some { 0 < length self.old.ahead }
+        requires room { length line.old.items < LINE_LIMIT }
+        ensures { TakesPiece self.old.ahead self.new.ahead line.old.items line.new.items result }
     {
         let window = self.window(LINE_LIMIT - line.len());
-        match memchr(b'\n', window) {
+        match memchr(LINE_FEED, window) {
             Some(place) => match line.extend_from_slice(&window[..place]) {
                 Ok(()) => {
                     self.skip(place + 1);
@@ -149,15 +189,16 @@ impl Ahead {
             },
             None => {
                 let count = window.len();
-                match line.extend_from_slice(window) {
-                    Ok(()) => {}
-                    Err(_) => return Piece::Memory,
+                if line.len() + count == LINE_LIMIT {
+                    self.skip(count);
+                    return Piece::TooLong;
                 }
-                self.skip(count);
-                if line.len() == LINE_LIMIT {
-                    Piece::TooLong
-                } else {
-                    Piece::More
+                match line.extend_from_slice(window) {
+                    Ok(()) => {
+                        self.skip(count);
+                        Piece::More
+                    }
+                    Err(_) => Piece::Memory,
                 }
             }
         }

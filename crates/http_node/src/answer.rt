@@ -2,10 +2,12 @@
 
 ghost use Rattle.std.specs.Prelude.{◌≡◌, ◌++◌, ◌∷◌, [], OnOk, codes, decimal};
 ghost use Rattle.cdni_base.specs.Rule.{rule_status, rule_text};
-ghost use Rattle.http_node.specs.Answer.{numbered, endpoint_text, plan_text, cause_text, fault_text, failed_line, answer_line};
+ghost use Rattle.http_node.specs.declared.grammar.TheConstants.{SPACE};
+ghost use Rattle.http_node.specs.declared.lines.TheConstants.{LINE_FEED};
+ghost use Rattle.http_node.specs.Answer.{numbered, endpoint_word, plan_text, cause_text, fault_text, failed_line, answer_line};
 
 use crate::call::Reply;
-use cdni_base::{Endpoint, Rule};
+use cdni_base::{Endpoint, HTTP_PORT, Rule};
 use itoa::Buffer;
 use json_read::{FieldCause, FieldFault};
 use metadata_objects::MetaFault;
@@ -85,7 +87,7 @@ fn put_fault(out: &mut Vec<u8>, fault: &MetaFault) -> Result<(), AllocError>
 }
 
 fn put_field(out: &mut Vec<u8>, field: &FieldFault) -> Result<(), AllocError>
-    ensures { OnOk result (out.new.items ≡ out.old.items ++ (codes "field " ++ field.now.path ++ 32 ∷ [] ++ cause_text field.now.cause)) }
+    ensures { OnOk result (out.new.items ≡ out.old.items ++ (codes "field " ++ field.now.path ++ SPACE ∷ [] ++ cause_text field.now.cause)) }
 {
     put(out, b"field ")?;
     put(out, field.path.bytes())?;
@@ -104,7 +106,7 @@ fn cause_text(cause: FieldCause) -> &'static [u8]
 }
 
 fn put_denied(out: &mut Vec<u8>, delivery: u64, rule: &Rule) -> Result<(), AllocError>
-    ensures { OnOk result (out.new.items ≡ out.old.items ++ (codes "denied " ++ decimal delivery ++ 32 ∷ [] ++ decimal (rule_status rule.now) ++ 32 ∷ [] ++ rule_text rule.now ++ 10 ∷ [])) }
+    ensures { OnOk result (out.new.items ≡ out.old.items ++ (codes "denied " ++ decimal delivery ++ SPACE ∷ [] ++ decimal (rule_status rule.now) ++ SPACE ∷ [] ++ rule_text rule.now ++ LINE_FEED ∷ [])) }
 {
     put(out, b"denied ")?;
     put_number(out, delivery)?;
@@ -143,7 +145,7 @@ fn put_miss(
     fetch: u64,
     plan: &[Endpoint],
 ) -> Result<(), AllocError>
-    ensures { OnOk result (out.new.items ≡ out.old.items ++ (codes "miss " ++ decimal delivery ++ 32 ∷ [] ++ decimal fetch ++ plan_text plan.now ++ 10 ∷ [])) }
+    ensures { OnOk result (out.new.items ≡ out.old.items ++ (codes "miss " ++ decimal delivery ++ SPACE ∷ [] ++ decimal fetch ++ plan_text plan.now ++ LINE_FEED ∷ [])) }
 {
     put(out, b"miss ")?;
     put_number(out, delivery)?;
@@ -164,10 +166,10 @@ fn put_plan(out: &mut Vec<u8>, plan: &[Endpoint]) -> Result<(), AllocError>
 }
 
 fn put_endpoint(out: &mut Vec<u8>, endpoint: &Endpoint) -> Result<(), AllocError>
-    ensures { OnOk result (out.new.items ≡ out.old.items ++ endpoint_text endpoint.now) }
+    ensures { OnOk result (out.new.items ≡ out.old.items ++ endpoint_word endpoint.now) }
 {
     put(out, b" ")?;
-    put(out, endpoint.host.0.bytes())?;
+    put(out, endpoint.host.bytes())?;
     put(out, b":")?;
-    put_number(out, endpoint.port.unwrap_or(80) as u64)
+    put_number(out, endpoint.port.unwrap_or(HTTP_PORT) as u64)
 }

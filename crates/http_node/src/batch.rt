@@ -4,11 +4,11 @@ ghost use Rattle.std.specs.Prelude.{◌≡◌, ◌≢◌, ◌≤◌, ◌⊎◌, 
 ghost use Rattle.std.specs.Io.KnownBytes.{Appends, Keeps};
 ghost use Rattle.edge_base.specs.Causes.{Rose};
 ghost use Rattle.http_node.specs.Script.{answers};
-ghost use Rattle.http_node.specs.Batch.{is_replay, status_of, Replays};
+ghost use Rattle.http_node.specs.Batch.{is_replay, status_of, Replays, ReadsScript, MeetsNone};
 ghost use Rattle.http_node.specs.Note.{note_of, IsNoted};
 
 use crate::note::{NOTE_ROOM, USAGE, WANT_OF_MEMORY, put_end_note, write_note};
-use crate::replaying::{ReplayEnd, replay};
+use crate::script::{ReplayEnd, replay};
 use cdni_base::Scratch;
 use edge_base::{Sink, Source, Status};
 use std::alloc::Global;
@@ -18,8 +18,9 @@ use std::alloc::Global;
 /// where that fails nothing else changes.
 ///
 /// The status is `Done` where the input was read to its end; `Script` where a line was read that is no script line
-/// and every answer before it was written; `Usage` exactly where the words are no command; `ReadFault` and
-/// `WriteFault` only where the input's, the output's count of faults rose; and `Memory` for want of memory.
+/// and every answer before it was written, and then no other but `Memory`; `Usage` exactly where the words are no command;
+/// `ReadFault` and `WriteFault` exactly where the input's, the output's count of faults rose in this call, as far as a count
+/// that stands at 2^64 - 1 can tell; and `Memory` for want of memory.
 pub fn batch_main<S: Source, K: Sink, E: Sink>(
     alloc: Global,
     words: &[String],
@@ -39,10 +40,17 @@ pub fn batch_main<S: Source, K: Sink, E: Sink>(
         → (Rose (S.faults input.old) (S.faults input.new) → ⊥) → (Rose (K.faults output.old) (K.faults output.new) → ⊥)
         → IfSome (S.left input.old) (λ script. (answers script).stops ≡ None → (result ≡ Status.Done) ⊎ (result ≡ Status.Memory)) }
 
+    // What was read, where a line is none: the status is that of the script, but for want of memory.
+    ensures lines { is_replay words.now ≡ true → ReadsScript (S.left input.old) (S.left input.new) (K.held output.old) (K.held output.new) result }
+    ensures script { is_replay words.now ≡ true → MeetsNone (S.left input.old) (S.left input.new) (K.held output.old) (K.held output.new)
+        → (result ≡ Status.Script) ⊎ (result ≡ Status.Memory) }
+
     // The causes of the faults.
     ensures read { result ≡ Status.ReadFault → Rose (S.faults input.old) (S.faults input.new) }
+    ensures read_well { result ≢ Status.ReadFault → S.faults input.new ≡ S.faults input.old }
     ensures read_later { S.faults input.old ≤ S.faults input.new }
     ensures write { result ≡ Status.WriteFault → Rose (K.faults output.old) (K.faults output.new) }
+    ensures write_well { result ≢ Status.WriteFault → K.faults output.new ≡ K.faults output.old }
     ensures write_later { K.faults output.old ≤ K.faults output.new }
     ensures outside { result ≢ Status.Outside }
 {

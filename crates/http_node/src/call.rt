@@ -3,7 +3,7 @@
 use cdni_base::{Asked, EndpointList, Rule};
 use edge_base::Moment;
 use location_acl::Place;
-use metadata_objects::{HostIndex, MetaFault};
+use metadata_objects::{MetaFault, Tree};
 
 /// One event that the core is asked to take in.
 #[derive(Drop)]
@@ -15,7 +15,7 @@ pub enum Call {
     /// A refresh ended, with what was gathered, if it could be read.
     RefreshEnd {
         refresh: u64,
-        index: Option<HostIndex>,
+        tree: Option<Tree>,
         moment: Moment,
     },
     /// The request of a client at this place would be delivered.

@@ -6,9 +6,11 @@ mod ahead;
 mod answer;
 mod batch;
 mod call;
+mod grammar;
+mod history;
+pub mod laws;
+mod lines;
 mod note;
-mod replaying;
 mod script;
-mod step;
 
 pub use batch::batch_main;

@@ -4,7 +4,7 @@ ghost use Rattle.std.specs.Prelude.{◌≡◌, ◌+◌, ◌≤◌, ◌++◌, [],
 ghost use Rattle.cdni_base.specs.Scratch.{Room};
 ghost use Rattle.http_node.specs.Note.{bad_line_text, end_note, IsNoted};
 
-use crate::replaying::ReplayEnd;
+use crate::script::ReplayEnd;
 use cdni_base::Scratch;
 use edge_base::{Sink, write_counted};
 

@@ -1,284 +1,120 @@
-//! The lines of a script.
+//! The answers of a script, line by line.
 
-ghost use Rattle.std.specs.Prelude.{◌≡◌, ◌<◌, IfOk, IfSome, option_map};
-ghost use Rattle.std.specs.List.{list_all};
-ghost use Rattle.location_acl.specs.Footprint.{asn_of, country_of};
-ghost use Rattle.metadata_objects.specs.Host.{host_index_of_text};
-ghost use Rattle.http_node.specs.Event.{event_of, noted_of};
-ghost use Rattle.http_node.specs.Grammar.{number_below, url_target, is_url, are_urls, is_token_byte, is_method, protocol_of, optional, place_at, asked_of, get_of, refreshed, meta_of, plain, call_of, line_of};
+ghost use Rattle.std.specs.Prelude.{◌≡◌, ◌≢◌, ◌+◌, ◌≤◌};
+ghost use Rattle.edge_base.specs.Causes.{Rose};
+ghost use Rattle.http_node.specs.Script.{fits, Ends, Reads, StepsTo};
 
-use crate::call::{Call, NotedCall, ScriptLine};
-use cdni_base::{Asked, Protocol, Target, TargetFault, Text};
-use edge_base::Moment;
-use listing::{cut_at, read_decimal};
-use location_acl::{Ip, Place, asn_of, country_of};
-use metadata_objects::{HostIndex, MetaFault};
-use std::alloc::{AllocError, Global};
+use crate::ahead::LineRead;
+use crate::answer::put_answer;
+use crate::call::ScriptLine;
+use crate::grammar::read_line;
+use crate::history::Core;
+use crate::lines::{LINE_LIMIT, Lines};
+use cdni_base::Limits;
+use edge_base::{Sink, Source, write_counted};
+use std::alloc::Global;
 
-// the script line that these bytes are, if they are one
-#[tactic(auto, unfolding(crate::specs::Grammar::line_of))]
-pub(crate) fn read_line(alloc: Global, line: &[u8]) -> Result<Option<ScriptLine>, AllocError>
-    ensures { IfOk result (λ found. option_map (λ l. (l.pass, noted_of l.noted)) found ≡ line_of line.now) }
-{
-    let Some((pass, rest)) = cut_at(b' ', line) else {
-        return Ok(None);
-    };
-    let Some(number) = read_below(4294967296, pass) else {
-        return Ok(None);
-    };
-    let Some((moment, rest)) = cut_at(b' ', rest) else {
-        return Ok(None);
-    };
-    let Some(moment) = read_decimal(moment) else {
-        return Ok(None);
-    };
-    match read_call(alloc, moment, rest)? {
-        Some(noted) => Ok(Some(ScriptLine {
-            pass: number as u32,
-            noted,
-        })),
-        None => Ok(None),
-    }
+/// No line ends past this byte of a script.
+pub const SCRIPT_LIMIT: u64 = 1 << 40;
+
+/// How a replay ended.
+#[derive(Clone, Copy, Debug, PartialEq, Eq)]
+pub enum ReplayEnd {
+    /// The input was read to its end and all answers were written.
+    Done,
+    /// This line, counted from 1, which begins at this byte, counted from 0, is no script line;
+    /// the answers before it were written.
+    NotALine { line: u64, at: u64 },
+    /// The input failed.
+    ReadFault,
+    /// The output failed.
+    WriteFault,
+    /// Want of memory.
+    Memory,
 }
 
-#[tactic(auto, unfolding(crate::specs::Grammar::number_below))]
-fn read_below(bound: u64, text: &[u8]) -> Option<u64>
-    ensures value { result ≡ number_below bound text.now }
-    ensures below { IfSome result (λ n. n < bound) }
-{
-    match read_decimal(text) {
-        Some(number) if number < bound => Some(number),
-        _ => None,
-    }
+/// What a line of the script gave.
+#[derive(Clone, Copy, Debug, PartialEq, Eq)]
+pub enum Stepped {
+    /// An answer.
+    Answered,
+    /// It is no script line.
+    NotALine,
+    /// Want of memory.
+    Memory,
 }
 
-#[tactic(auto, unfolding(crate::specs::Grammar::call_of))]
-fn read_call(alloc: Global, moment: Moment, text: &[u8]) -> Result<Option<NotedCall>, AllocError>
-    ensures { IfOk result (λ found. option_map noted_of found ≡ call_of moment text.now) }
+// writes the answers of the script that the input gives
+pub(crate) fn replay<S: Source, K: Sink>(alloc: Global, input: &mut S, output: &mut K) -> ReplayEnd
+    ensures ends { Ends (S.left input.old) (S.left input.new) (K.held output.old) (K.held output.new) result }
+    ensures reads { Reads (S.left input.old) (S.left input.new) (K.held output.old) (K.held output.new) result }
+    ensures read_later { S.faults input.old ≤ S.faults input.new }
+    ensures read { result ≡ ReplayEnd.ReadFault → Rose (S.faults input.old) (S.faults input.new) }
+    ensures read_well { result ≢ ReplayEnd.ReadFault → S.faults input.new ≡ S.faults input.old }
+    ensures write_later { K.faults output.old ≤ K.faults output.new }
+    ensures write { result ≡ ReplayEnd.WriteFault → Rose (K.faults output.old) (K.faults output.new) }
+    ensures write_well { result ≢ ReplayEnd.WriteFault → K.faults output.new ≡ K.faults output.old }
 {
-    if text == b"refresh".as_slice() {
-        return Ok(Some(plain(Call::RefreshBegin { moment })));
-    }
-    let Some((word, rest)) = cut_at(b' ', text) else {
-        return Ok(None);
+    let Ok(mut lines) = Lines::new(alloc) else {
+        return ReplayEnd::Memory;
     };
-    if word == b"meta".as_slice() {
-        return read_meta(alloc, moment, rest);
-    }
-    if word == b"get".as_slice() {
-        return Ok(read_get(alloc, moment, rest)?.map(plain));
-    }
-    Ok(None)
-}
-
-// a call of which nothing is noted
-fn plain(call: Call) -> NotedCall
-    ensures { noted_of result ≡ plain (event_of call) }
-{
-    NotedCall { call, note: None }
-}
-
-// R URLS JSON
-#[tactic(auto, unfolding(crate::specs::Grammar::meta_of))]
-fn read_meta(alloc: Global, moment: Moment, text: &[u8]) -> Result<Option<NotedCall>, AllocError>
-    ensures { IfOk result (λ found. option_map noted_of found ≡ meta_of moment text.now) }
-{
-    let Some((number, rest)) = cut_at(b' ', text) else {
-        return Ok(None);
-    };
-    let Some(refresh) = read_decimal(number) else {
-        return Ok(None);
-    };
-    let Some((urls, json)) = cut_at(b' ', rest) else {
-        return Ok(None);
-    };
-    if !are_urls(alloc, urls)? {
-        return Ok(None);
-    }
-    Ok(Some(refreshed(alloc, refresh, moment, json)?))
-}
-
-// the end of a refresh with the metadata of this text, or without, and then the fault is noted
-fn refreshed(
-    alloc: Global,
-    refresh: u64,
-    moment: Moment,
-    json: &[u8],
-) -> Result<NotedCall, AllocError>
-    ensures { IfOk result (λ noted. noted_of noted ≡ refreshed refresh moment (host_index_of_text json.now)) }
-{
-    let (index, note) = match HostIndex::read(alloc, json) {
-        Ok(index) => (Some(index), None),
-        Err(MetaFault::Memory) => return Err(AllocError),
-        Err(fault) => (None, Some(fault)),
-    };
-    Ok(NotedCall {
-        call: Call::RefreshEnd {
-            refresh,
-            index,
-            moment,
-        },
-        note,
-    })
-}
-
-// METHOD PROTOCOL IP ASN CC URL
-#[tactic(auto, unfolding(crate::specs::Grammar::get_of))]
-fn read_get(alloc: Global, moment: Moment, text: &[u8]) -> Result<Option<Call>, AllocError>
-    ensures { IfOk result (λ found. option_map event_of found ≡ get_of moment text.now) }
-{
-    let Some((method, rest)) = cut_at(b' ', text) else {
-        return Ok(None);
-    };
-    let Some((protocol, rest)) = cut_at(b' ', rest) else {
-        return Ok(None);
-    };
-    let Some((address, rest)) = cut_at(b' ', rest) else {
-        return Ok(None);
-    };
-    let Some((network, rest)) = cut_at(b' ', rest) else {
-        return Ok(None);
-    };
-    let Some((country, url)) = cut_at(b' ', rest) else {
-        return Ok(None);
-    };
-    let Some(place) = read_place(address, network, country) else {
-        return Ok(None);
-    };
-    match read_asked(alloc, method, protocol, url)? {
-        Some(asked) => Ok(Some(Call::Admit {
-            asked,
-            place,
-            moment,
-        })),
-        None => Ok(None),
-    }
-}
-
-// the place of an address, a network or `-`, and a country or `-`
-#[tactic(auto, unfolding(crate::specs::Grammar::place_at))]
-fn read_place(address: &[u8], network: &[u8], country: &[u8]) -> Option<Place>
-    ensures { result ≡ place_at address.now network.now country.now }
-{
-    let Ok(ip) = Ip::read(address) else {
-        return None;
-    };
-    let asn = read_network(network)?;
-    let country = read_country(country)?;
-    Some(Place { ip, asn, country })
-}
-
-// `-` for none, or `as` and a number
-fn read_network(text: &[u8]) -> Option<Option<u32>>
-    ensures { result ≡ optional asn_of text.now }
-{
-    if text == b"-".as_slice() {
-        return Some(None);
-    }
-    match asn_of(text) {
-        Some(number) => Some(Some(number)),
-        None => None,
-    }
-}
-
-// `-` for none, or two lower-case letters
-fn read_country(text: &[u8]) -> Option<Option<(u8, u8)>>
-    ensures { result ≡ optional country_of text.now }
-{
-    if text == b"-".as_slice() {
-        return Some(None);
-    }
-    match country_of(text) {
-        Some(letters) => Some(Some(letters)),
-        None => None,
-    }
-}
-
-#[tactic(auto, unfolding(crate::specs::Grammar::asked_of))]
-fn read_asked(
-    alloc: Global,
-    method: &[u8],
-    protocol: &[u8],
-    url: &[u8],
-) -> Result<Option<Asked>, AllocError>
-    ensures { IfOk result (λ found. found ≡ asked_of method.now protocol.now url.now) }
-{
-    if !is_method(method) {
-        return Ok(None);
-    }
-    let Some(protocol) = read_protocol(protocol) else {
-        return Ok(None);
-    };
-    let Some(target) = read_target(alloc, url)? else {
-        return Ok(None);
-    };
-    Ok(Some(Asked {
-        method: Text::of(alloc, method)?,
-        protocol,
-        target,
-    }))
-}
-
-#[tactic(auto, unfolding(crate::specs::Grammar::is_method))]
-fn is_method(text: &[u8]) -> bool
-    ensures { result ≡ is_method text.now }
-{
-    !text.is_empty() && text.len() <= 127 && is_token(text)
-}
-
-fn is_token(text: &[u8]) -> bool
-    ensures { result ≡ list_all is_token_byte text.now }
-{
-    text.iter().all(|byte| is_token_byte(*byte))
-}
-
-fn is_token_byte(byte: u8) -> bool
-    ensures { result ≡ is_token_byte byte }
-{
-    byte.is_ascii_alphanumeric() || b"!#$%&'*+-.^_`|~".contains(&byte)
-}
-
-#[tactic(auto, unfolding(crate::specs::Grammar::protocol_of))]
-fn read_protocol(text: &[u8]) -> Option<Protocol>
-    ensures { result ≡ protocol_of text.now }
-{
-    if text == b"http/1.1".as_slice() {
-        return Some(Protocol::Http);
-    }
-    if text == b"https/1.1".as_slice() {
-        Some(Protocol::Https)
-    } else {
-        None
-    }
-}
-
-// whether these are URLs joined by bars
-fn are_urls(alloc: Global, text: &[u8]) -> Result<bool, AllocError>
-    ensures { IfOk result (λ answer. answer ≡ are_urls text.now) }
-{
-    let mut rest = text;
-    'urls: while let Some((url, after)) = cut_at(b'|', rest) {
-        if !is_url(alloc, url)? {
-            return Ok(false);
+    let mut core = Core::new(alloc, Limits::standard());
+    let mut answer = Vec::new(alloc);
+    let mut number: u64 = 1;
+    let mut at: u64 = 0;
+    'lines: loop {
+        match lines.next_line(input) {
+            LineRead::Line => {}
+            LineRead::End => {
+                if lines.line().is_empty() {
+                    return ReplayEnd::Done;
+                }
+                return ReplayEnd::NotALine { line: number, at };
+            }
+            LineRead::TooLong => return ReplayEnd::NotALine { line: number, at },
+            LineRead::Failed => return ReplayEnd::ReadFault,
+            LineRead::Memory => return ReplayEnd::Memory,
         }
-        rest = after;
+        let line = lines.line();
+        match answer_one(alloc, &mut core, at, line, &mut answer) {
+            Stepped::Answered => {}
+            Stepped::NotALine => return ReplayEnd::NotALine { line: number, at },
+            Stepped::Memory => return ReplayEnd::Memory,
+        }
+        if write_counted(output, &answer).fault {
+            return ReplayEnd::WriteFault;
+        }
+        number += 1;
+        at += line.len() as u64 + 1;
     }
-    is_url(alloc, rest)
 }
 
-fn is_url(alloc: Global, text: &[u8]) -> Result<bool, AllocError>
-    ensures { IfOk result (λ answer. answer ≡ is_url text.now) }
+// answers the line that begins at this place of the script; the answer takes the place of what was there
+#[tactic(auto, unfolding(crate::specs::Script::next_line))]
+fn answer_one(alloc: Global, core: &mut Core, at: u64, line: &[u8], answer: &mut Vec<u8>) -> Stepped
+    ensures { StepsTo core.old core.new at line.now answer.new.items result }
 {
-    Ok(read_target(alloc, text)?.is_some())
+    if !is_in_limits(at, line.len()) {
+        return Stepped::NotALine;
+    }
+    let ScriptLine { pass, noted } = match read_line(alloc, line) {
+        Ok(Some(line)) => line,
+        Ok(None) => return Stepped::NotALine,
+        Err(_) => return Stepped::Memory,
+    };
+    let Ok(reply) = core.call(alloc, pass, noted.call) else {
+        return Stepped::Memory;
+    };
+    answer.clear();
+    match put_answer(answer, &reply, &noted.note) {
+        Ok(()) => Stepped::Answered,
+        Err(_) => Stepped::Memory,
+    }
 }
 
-// the target of an absolute URL
-fn read_target(alloc: Global, url: &[u8]) -> Result<Option<Target>, AllocError>
-    ensures { IfOk result (λ found. found ≡ url_target url.now) }
+// whether a line of this length, its line feed not counted, ends within the limits
+fn is_in_limits(at: u64, length: usize) -> bool
+    ensures { result ≡ fits at (length + 1) }
 {
-    match Target::read(alloc, url, None, false) {
-        Ok(target) => Ok(Some(target)),
-        Err(TargetFault::Memory) => Err(AllocError),
-        Err(_) => Ok(None),
-    }
+    length < LINE_LIMIT && at <= SCRIPT_LIMIT && at + length as u64 + 1 <= SCRIPT_LIMIT
 }

@@ -1,4 +1,4 @@
-use Rattle.std.proofs.Common.{arith}
+use Rattle.std.proofs.Common.{◌∙◌, arith}
 use Rattle.std.proofs.Math.Seq.{take-add}
 use Rattle.std.proofs.lemmas.List.{take_rest}
 use Rattle.std.proofs.KnownBytes.{Appends-trans}
@@ -10,5 +10,5 @@ pieces-preserved g c =
     record {
       within = omega (arith, c.in-Some.ensures.count);
       held = rw (take-add c.pieces.taken c.in-Some.count c.args.bytes.now) (Appends-trans _ _ _ _ _ c.pieces.invariant.held here);
-      later = omega (arith, c.in-Some.ensures.cause.later);
+      answered = c.in-Some.ensures.cause.answered (λ e. cc) ∙ c.pieces.invariant.answered;
     }

@@ -34,15 +34,15 @@ unenforceable_rule objects = option_map rule.Unenforceable (unenforceable_of obj
 
 -- the effective location list denies; where there is none it does not
 abbrev pub location_rule : List Generic → Place → Option Rule
-location_rule objects place = option_and_then (λ rules. denied_by rule.Location (location.decided rules place)) (location_of objects)
+location_rule objects place = option_and_then (λ rules. denied_by rule.Location (location.location_decision rules place)) (location_of objects)
 
 -- the same of the time list
 abbrev pub time_rule : List Generic → ℕ → Option Rule
-time_rule objects moment = option_and_then (λ rules. denied_by rule.Time (time.decided rules moment)) (time_of objects)
+time_rule objects moment = option_and_then (λ rules. denied_by rule.Time (time.time_decision rules moment)) (time_of objects)
 
 -- the same of the protocol list
 abbrev pub protocol_rule : List Generic → Protocol → Option Rule
-protocol_rule objects spoken = option_and_then (λ rules. denied_by rule.Protocol (protocol.decided rules (protocol_name spoken))) (protocol_of objects)
+protocol_rule objects spoken = option_and_then (λ rules. denied_by rule.Protocol (protocol.protocol_decision rules (protocol_name spoken))) (protocol_of objects)
 
 abbrev pub no_source : List Endpoint → Option Rule
 no_source [] = Some rule.NoSource

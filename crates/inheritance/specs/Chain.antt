@@ -30,7 +30,8 @@ unfoldable mutual
 
   pub arrays_below : List ℕ → Branches → List (List Generic)
   arrays_below path no_branches = []
-  arrays_below path (branch pattern inner others) = if is_match pattern path then arrays_at path inner else arrays_below path others
+  arrays_below path (branch pattern inner others) =
+      if is_match pattern path then arrays_at path inner else arrays_below path others
 
 -- the arrays of the first HostMatch that matches, outermost first; none where no HostMatch does
 unfoldable pub chain : Index → Target → Option (List (List Generic))
@@ -49,15 +50,19 @@ applies path one = is_match one.0 path
 
 -- this stands below the first PathMatch of a level whose pattern matches the path
 abbrev pub IsInner : List ℕ → LevelData → LevelData → Type 0
-IsInner path here inner = (index : ℕ) × (pattern : Compiled) × IsFirst (applies path) (paths_in (branches_in here)) index (pattern, inner)
+IsInner path here inner =
+    (index : ℕ) × (pattern : Compiled) × IsFirst (applies path) (paths_in (branches_in here)) index (pattern, inner)
 
--- One array for each level: that of this level, and then those of the level below the first PathMatch that matches. They
--- end at the level where no PathMatch matches.
+-- One array for each level: that of this level, and then those of the level below the first PathMatch that matches.
+-- They end at the level where no PathMatch matches.
 abbrev pub AreLevels : List ℕ → LevelData → List (List Generic) → Type 0
 AreLevels path here [] = ⊥
-AreLevels path here (objects ∷ []) = (objects ≡ objects_in here) × NoneHolds (applies path) (paths_in (branches_in here))
-AreLevels path here (objects ∷ next ∷ arrays) = (objects ≡ objects_in here) × ((inner : LevelData) × IsInner path here inner × AreLevels path inner (next ∷ arrays))
+AreLevels path here (objects ∷ []) =
+    (objects ≡ objects_in here) × NoneHolds (applies path) (paths_in (branches_in here))
+AreLevels path here (objects ∷ next ∷ arrays) =
+    (objects ≡ objects_in here) × ((inner : LevelData) × IsInner path here inner × AreLevels path inner (next ∷ arrays))
 
 -- the arrays are those of the levels of the first HostMatch that matches
 abbrev pub IsChain : Index → Target → List (List Generic) → Type 0
-IsChain index target arrays = (place : ℕ) × (site : Site) × IsFirst (matches_target target) index place site × AreLevels target.path site.level arrays
+IsChain index target arrays =
+    (place : ℕ) × (site : Site) × IsFirst (matches_target target) index place site × AreLevels target.path site.level arrays

@@ -17,7 +17,8 @@ innermost kind (objects ∷ inner) = option_or (innermost kind inner) (find (is_
 -- of the objects after those before, the first of each type that is not among those before
 abbrev pub firsts_after : List Generic → List Generic → List Generic
 firsts_after before [] = []
-firsts_after before (object ∷ objects) = if list_any (is_of_kind object.kind) before then firsts_after (before ++ object ∷ []) objects
+firsts_after before (object ∷ objects) =
+    if list_any (is_of_kind object.kind) before then firsts_after (before ++ object ∷ []) objects
     else object ∷ firsts_after (before ++ object ∷ []) objects
 
 -- the first object of each type, in order
@@ -32,7 +33,8 @@ all_objects arrays = flat_map (λ objects. objects) arrays
 abbrev pub overriding : List (List Generic) → Generic → Generic
 overriding arrays object = unwrap_or (innermost object.kind arrays) object
 
--- one object for each type, in order of first appearance from outside, each the first of its type in the innermost array that has one
+-- one object for each type, in order of first appearance from outside, each the first of its type in the innermost
+-- array that has one
 unfoldable pub effective : List (List Generic) → List Generic
 effective arrays = map (overriding arrays) (firsts (all_objects arrays))
 
@@ -48,4 +50,5 @@ first_place arrays kind = position_or_len (is_of_kind kind) (all_objects arrays)
 
 -- of each two objects the type of the one that stands before appears before that of the other, from outside
 abbrev pub AreInOrderFromOutside : List (List Generic) → List Generic → Type 0
-AreInOrderFromOutside arrays objects = AllPairs (λ one other. first_place arrays one.kind < first_place arrays other.kind) objects
+AreInOrderFromOutside arrays objects =
+    AllPairs (λ one other. first_place arrays one.kind < first_place arrays other.kind) objects

@@ -12,11 +12,12 @@ ghost use Rattle.inheritance.specs.Effective.{is_of_kind, innermost, all_objects
 /// array has one.
 #[tactic(auto, using(crate::proofs::Innermost::effective_object))]
 pub fn effective_object_is_innermost()
-    ensures { (arrays : List (List Generic)) (kind : List ℕ) → find (is_of_kind kind) (effective arrays) ≡ innermost kind arrays }
+    ensures { (arrays : List (List Generic)) (kind : List ℕ)
+        → find (is_of_kind kind) (effective arrays) ≡ innermost kind arrays }
 {}
 
-/// The effective object of a type is that of the deepest level that names the type, its first there, whatever the levels
-/// outside it say.
+/// The effective object of a type is that of the deepest level that names the type, its first there, whatever the
+/// levels outside it say.
 #[tactic(auto, using(crate::proofs::Innermost::deepest))]
 pub fn deepest_level_decides()
     ensures { (outer inner : List (List Generic)) (objects : List Generic) (kind : List ℕ) (object : Generic)
@@ -39,12 +40,15 @@ pub fn types_stand_in_order_from_outside()
 /// Below a level one array applies for each level: that of the first PathMatch that matches, and of the first below it,
 /// until none matches.
 pub fn each_level_has_one_array()
-    ensures { (path : List ℕ) (here : LevelData) (arrays : List (List Generic)) → (arrays_at path here ≡ arrays) ↔ AreLevels path here arrays }
+    ensures { (path : List ℕ) (here : LevelData) (arrays : List (List Generic))
+        → (arrays_at path here ≡ arrays) ↔ AreLevels path here arrays }
 {}
 
 /// The arrays that apply to a target are those of the first HostMatch that matches it; there are none exactly where no
 /// HostMatch does.
 pub fn first_host_has_the_arrays()
-    ensures arrays { (index : Index) (target : Target) (arrays : List (List Generic)) → (chain index target ≡ Some arrays) ↔ IsChain index target arrays }
-    ensures none { (index : Index) (target : Target) → (chain index target ≡ None) ↔ NoneHolds (matches_target target) index }
+    ensures arrays { (index : Index) (target : Target) (arrays : List (List Generic))
+        → (chain index target ≡ Some arrays) ↔ IsChain index target arrays }
+    ensures none { (index : Index) (target : Target)
+        → (chain index target ≡ None) ↔ NoneHolds (matches_target target) index }
 {}

@@ -7,7 +7,8 @@ module _ {Rule : Type 0} where
   -- where none holds: deny, with no number
   abbrev pub first_from : (Rule → Bool) → (Rule → Bool) → ℕ → List Rule → Bool × Option ℕ
   first_from holds allows number [] = (false, None)
-  first_from holds allows number (rule ∷ rules) = if holds rule then (allows rule, Some number) else first_from holds allows (number + 1) rules
+  first_from holds allows number (rule ∷ rules) =
+      if holds rule then (allows rule, Some number) else first_from holds allows (number + 1) rules
 
   -- absent rules allow, with no number; rules are numbered from 1
   abbrev pub first_match : (Rule → Bool) → (Rule → Bool) → Option (List Rule) → Bool × Option ℕ
@@ -31,7 +32,8 @@ module _ {Rule : Type 0} where
 
   -- this is the action of the first rule of which the test holds, and this its number, counted from 1
   abbrev pub IsOfFirst : (Rule → Bool) → (Rule → Bool) → List Rule → Bool → ℕ → Type 0
-  IsOfFirst holds allows rules allowed number = (index : ℕ) × (rule : Rule) × IsFirst holds rules index rule × (number ≡ index + 1) × (allowed ≡ allows rule)
+  IsOfFirst holds allows rules allowed number =
+      (index : ℕ) × (rule : Rule) × IsFirst holds rules index rule × (number ≡ index + 1) × (allowed ≡ allows rule)
 
   -- rules answer the action and number of the first that holds, and deny without a number where none holds
   abbrev pub IsAnswer : (Rule → Bool) → (Rule → Bool) → List Rule → Bool → Option ℕ → Type 0

@@ -23,8 +23,8 @@ pub enum Verdict {
 }
 
 /// Judges a delivery by the effective metadata. The rules are asked in this order: an object that is mandatory and not
-/// understood, the location list, the time list, the protocol list, and that no source can be asked. A kind of list that is
-/// not effective forbids nothing.
+/// understood, the location list, the time list, the protocol list, and that no source can be asked. A kind of list that
+/// is not effective forbids nothing.
 ///
 /// # Errors
 /// Want of memory.
@@ -36,8 +36,12 @@ pub fn judge(
     moment: Moment,
 ) -> Result<Verdict, AllocError>
     ensures verdict { IfOk result (λ verdict. verdict ≡ verdict_of effective.now protocol place.now moment) }
-    ensures allow { IfOk result (λ verdict. (verdict ≡ Verdict.Allow) ↔ NoneForbids effective.now protocol place.now moment) }
-    ensures deny { IfOk result (λ verdict. (rule : Rule) → (verdict ≡ Verdict.Deny rule) ↔ IsFirstToForbid effective.now protocol place.now moment rule) }
+    ensures allow { IfOk result (λ verdict.
+        (verdict ≡ Verdict.Allow) ↔ NoneForbids effective.now protocol place.now moment) }
+
+    // It denies by the first rule that forbids.
+    ensures deny { IfOk result (λ verdict. (rule : Rule) →
+        (verdict ≡ Verdict.Deny rule) ↔ IsFirstToForbid effective.now protocol place.now moment rule) }
 {
     let found = first_rule(alloc, effective, protocol, place, moment)?;
     Ok(verdict_by(found))

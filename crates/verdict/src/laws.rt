@@ -15,7 +15,7 @@ pub fn allowed_where_none_forbids()
         → (verdict_of objects spoken place moment ≡ Allow) ↔ NoneForbids objects spoken place moment }
 {}
 
-/// A delivery is denied by a rule exactly where that rule forbids it and none before it does. The order is that of `Rule`.
+/// A delivery is denied by a rule exactly where that rule forbids it and none before it does, in the order of `Rule`.
 pub fn denied_by_the_first_that_forbids()
     ensures { (objects : List Generic) (spoken : Protocol) (place : Place) (moment : ℕ) (rule : Rule)
         → (verdict_of objects spoken place moment ≡ Deny rule) ↔ IsFirstToForbid objects spoken place moment rule }
@@ -23,7 +23,9 @@ pub fn denied_by_the_first_that_forbids()
 
 /// A kind of list of which no object is effective forbids nothing.
 pub fn absent_lists_forbid_nothing()
-    ensures location { (objects : List Generic) (place : Place) → location_of objects ≡ None → location_rule objects place ≡ None }
+    ensures location { (objects : List Generic) (place : Place)
+        → location_of objects ≡ None → location_rule objects place ≡ None }
     ensures time { (objects : List Generic) (moment : ℕ) → time_of objects ≡ None → time_rule objects moment ≡ None }
-    ensures protocol { (objects : List Generic) (spoken : Protocol) → protocol_of objects ≡ None → protocol_rule objects spoken ≡ None }
+    ensures protocol { (objects : List Generic) (spoken : Protocol)
+        → protocol_of objects ≡ None → protocol_rule objects spoken ≡ None }
 {}

@@ -2,13 +2,15 @@
 
 use crate::scripts::SCRIPTS;
 use edge_base::{
-    MemorySink, MemorySource, Put, Sink, Source, Status, StdSink, StdSource, SteadySink,
-    SteadySource, Took, write_counted,
+    Clock, ListClock, MemorySink, MemorySource, Put, Sink, Source, Status, StdSink, StdSource,
+    SteadySink, SteadySource, Took, WallClock, write_counted,
 };
 use http_node::batch_main;
 use std::alloc::Global;
-use std::fs;
+use std::io::{ErrorKind, Read, Write};
 use std::test::Fail;
+use std::time::Duration;
+use std::{fs, io, time};
 
 // the status of `replay` on the script, and what it wrote, by reads and writes of these portions
 fn replayed(
@@ -226,7 +228,16 @@ fn document(
 }
 
 // what is limited; before, opening, closing, after; and how often opening and closing stand, with the answers
-const LIMITS: [(&str, &str, &str, &str, &str, u32, &str); 12] = [
+const LIMITS: [(&str, &str, &str, &str, &str, u32, &str); 13] = [
+    (
+        "an endpoint that does not read",
+        "{\"hosts\":[{\"host\":\"a\",\"host-metadata\":{\"metadata\":[{\"generic-metadata-type\":\"MI.SourceMetadata\",\"generic-metadata-value\":{\"sources\":[{\"protocol\":\"http/1.1\",\"endpoints\":[\"o\"",
+        ",\"o o\"",
+        "",
+        "]}]}}]}}]}\n0 0 get GET http/1.1 192.0.2.7 - - http://a/\n",
+        1,
+        "due 1\ninstalled 1\ndenied 1 403 unenforceable mi.sourcemetadata\n",
+    ),
     (
         "objects",
         "{\"hosts\":[{\"host\":\"a\",\"host-metadata\":{\"metadata\":[{\"generic-metadata-type\":\"MI.X\",\"generic-metadata-value\":0}",
@@ -361,6 +372,140 @@ fn real_streams_give_and_take(rt: HostRuntime) -> Result<(), Fail> {
     assert_eq!(rt; &buffer[..18], b"due 1\ninstalled 1\n".as_slice());
     assert_eq!(rt; source.read(&mut buffer), Took::End);
     assert_eq!(rt; source.faults(), 0);
+    Ok(())
+}
+
+// the status of a refresh and a document of so many spaces, with what was written and noted
+fn ended_on_spaces(
+    alloc: Global,
+    spaces: usize,
+    after: &str,
+) -> Result<(Status, Vec<u8>, Vec<u8>), Fail> {
+    let mut script = Vec::from_slice(alloc, b"0 0 refresh\n0 0 meta 1 http://up.example/i ")?;
+    let blank = vec![in alloc; b' '; spaces]?;
+    script.extend_from_slice(&blank)?;
+    script.extend_from_slice(after.as_bytes())?;
+    let words = vec![in alloc; String::from_str(alloc, "replay")?]?;
+    let mut input = MemorySource::new(alloc, &script, &[])?;
+    let mut output = MemorySink::new(alloc, &[])?;
+    let mut notes = MemorySink::new(alloc, &[])?;
+    let status = batch_main(alloc, words.as_slice(), &mut input, &mut output, &mut notes);
+    Ok((
+        status,
+        output.held().to_vec(alloc)?,
+        notes.held().to_vec(alloc)?,
+    ))
+}
+
+// the front of the line has 31 bytes
+#[test]
+fn long_texts_and_lines(rt: HostRuntime) -> Result<(), Fail> {
+    let stopped = "line 2 at 12: not a script line\n";
+    let cases = [
+        (
+            8388609,
+            "\n",
+            Status::Done,
+            "due 1\nfailed too-long 8388609\n",
+            "",
+        ),
+        (
+            39999968,
+            "\n",
+            Status::Done,
+            "due 1\nfailed too-long 39999968\n",
+            "",
+        ),
+        (39999969, "\n", Status::Script, "due 1\n", stopped),
+    ];
+    for (spaces, after, status, answers, note) in cases {
+        let (ended, written, noted) = ended_on_spaces(rt.alloc(), spaces, after)?;
+        assert_eq!(rt; ended, status, "{spaces}");
+        assert_eq!(rt; written.as_slice(), answers.as_bytes());
+        assert_eq!(rt; noted.as_slice(), note.as_bytes());
+    }
+    Ok(())
+}
+
+// a reader that gives one byte and then fails, and a writer that takes two bytes and then none
+#[derive(Drop)]
+struct Broken {
+    calls: u8,
+}
+
+impl Read for Broken {
+    fn read(&mut self, buf: &mut [u8]) -> io::Result<usize> {
+        if self.calls > 0 || buf.is_empty() {
+            return Err(io::Error::from(ErrorKind::BrokenPipe));
+        }
+        self.calls = 1;
+        buf[0] = b'x';
+        Ok(1)
+    }
+}
+
+impl Write for Broken {
+    fn write(&mut self, buf: &[u8]) -> io::Result<usize> {
+        if self.calls > 0 {
+            return Ok(0);
+        }
+        self.calls = 1;
+        Ok(buf.len().min(2))
+    }
+
+    fn flush(&mut self) -> io::Result<()> {
+        Ok(())
+    }
+}
+
+#[test]
+fn broken_streams_fail(rt: HostRuntime) -> Result<(), Fail> {
+    let mut source = StdSource::new(Broken { calls: 0 });
+    let mut buffer = [0u8; 4];
+    assert_eq!(rt; source.read(&mut buffer), Took::Some(1));
+    assert_eq!(rt; source.read(&mut buffer), Took::Failed);
+    assert_eq!(rt; source.faults(), 1);
+    let mut sink = StdSink::new(Broken { calls: 0 });
+    let written = write_counted(&mut sink, b"due 1");
+    assert_eq!(rt; written.taken, 2);
+    assert!(rt; written.fault);
+    assert_eq!(rt; sink.faults(), 1);
+    Ok(())
+}
+
+// a clock of the library that stands still, and one that cannot be read
+#[derive(Drop)]
+struct Still {
+    nanoseconds: Option<u64>,
+}
+
+impl time::Clock for Still {
+    fn monotonic(&self) -> io::Result<Duration> {
+        Err(io::Error::from(ErrorKind::Unsupported))
+    }
+
+    fn since_1970(&self) -> io::Result<Duration> {
+        match self.nanoseconds {
+            Some(nanoseconds) => Ok(Duration::from_nanos(nanoseconds)),
+            None => Err(io::Error::from(ErrorKind::Unsupported)),
+        }
+    }
+}
+
+#[test]
+fn clocks_give_milliseconds(rt: HostRuntime) -> Result<(), Fail> {
+    let mut list = ListClock::new(rt.alloc(), &[7, 5])?;
+    assert_eq!(rt; list.now(), 7);
+    assert_eq!(rt; list.now(), 5);
+    assert_eq!(rt; list.now(), 5);
+    let mut still = WallClock::new(Still {
+        nanoseconds: Some(1368751086825999999),
+    });
+    assert_eq!(rt; still.now(), 1368751086825);
+    let mut none = WallClock::new(Still { nanoseconds: None });
+    assert_eq!(rt; none.now(), 0);
+    let mut wall = WallClock::new(rt.clone()?);
+    assert!(rt; wall.now() > 1700000000000);
     Ok(())
 }
 

@@ -7,7 +7,7 @@ ghost use Rattle.http_node.specs.Script.{answers};
 ghost use Rattle.http_node.specs.Batch.{is_replay, status_of, Replays, ReadsScript, MeetsNone};
 ghost use Rattle.http_node.specs.Note.{note_of, IsNoted};
 
-use crate::note::{NOTE_ROOM, USAGE, WANT_OF_MEMORY, put_end_note, write_note};
+use crate::note::{NOTE_ROOM, note_status, put_end_note, write_note};
 use crate::script::{ReplayEnd, replay};
 use cdni_base::Scratch;
 use edge_base::{Sink, Source, Status};
@@ -55,11 +55,11 @@ pub fn batch_main<S: Source, K: Sink, E: Sink>(
     ensures outside { result ≢ Status.Outside }
 {
     if !is_replay(words) {
-        write_note(notes, USAGE);
+        note_status(notes, Status::Usage);
         return Status::Usage;
     }
     let Ok(mut note) = Scratch::new(alloc, NOTE_ROOM) else {
-        write_note(notes, WANT_OF_MEMORY);
+        note_status(notes, Status::Memory);
         return Status::Memory;
     };
     let end = replay(alloc, input, output);

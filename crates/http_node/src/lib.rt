@@ -14,3 +14,4 @@ mod note;
 mod script;
 
 pub use batch::batch_main;
+pub use note::note_status;

@@ -1,21 +1,42 @@
 //! Notes of how a command ended, one line each.
 
-ghost use Rattle.std.specs.Prelude.{◌≡◌, ◌+◌, ◌≤◌, ◌++◌, [], length, decimal};
+ghost use Rattle.std.specs.Prelude.{◌≡◌, ◌+◌, ◌≤◌, ◌++◌, [], None, length, decimal};
 ghost use Rattle.cdni_base.specs.Scratch.{Room};
-ghost use Rattle.http_node.specs.Note.{bad_line_text, end_note, IsNoted};
+ghost use Rattle.http_node.specs.Note.{bad_line_text, end_note, note_of, IsNoted};
 
 use crate::script::ReplayEnd;
 use cdni_base::Scratch;
-use edge_base::{Sink, write_counted};
+use edge_base::{Sink, Status, write_counted};
 
 /// Room for the longest note of the end of a replay, in bytes.
 pub(crate) const NOTE_ROOM: usize = 96;
 
-/// The note of words that are no command.
-pub(crate) const USAGE: &[u8] = b"usage: cdnid replay | generate N SEED | audit | serve OPTIONS\n";
+// the note of words that are no command
+const USAGE: &[u8] = b"usage: cdnid replay | generate N SEED | audit | serve OPTIONS\n";
 
-/// The note of want of memory.
-pub(crate) const WANT_OF_MEMORY: &[u8] = b"want of memory\n";
+// the note of want of memory
+const WANT_OF_MEMORY: &[u8] = b"want of memory\n";
+
+/// Writes the note of a command that ended so before it read a line; a fault of the sink is passed over.
+pub fn note_status<E: Sink>(notes: &mut E, status: Status)
+    ensures { IsNoted (E.held notes.old) (E.held notes.new) (E.faults notes.old) (E.faults notes.new) (note_of status None) }
+{
+    write_note(notes, status_note(status));
+}
+
+// the note of a status, where no line is to be named
+fn status_note(status: Status) -> &'static [u8]
+    ensures { result.now ≡ note_of status None }
+{
+    match status {
+        Status::Done | Status::Script => b"",
+        Status::Usage => USAGE,
+        Status::ReadFault => b"read fault\n",
+        Status::WriteFault => b"write fault\n",
+        Status::Memory => WANT_OF_MEMORY,
+        Status::Outside => b"outside fault\n",
+    }
+}
 
 // writes a note; a fault of the sink is passed over
 pub(crate) fn write_note<E: Sink>(notes: &mut E, note: &[u8])
@@ -26,7 +47,7 @@ pub(crate) fn write_note<E: Sink>(notes: &mut E, note: &[u8])
 
 // puts the note of the end of a replay into an empty scratch
 pub(crate) fn put_end_note(out: &mut Scratch, end: ReplayEnd)
-    requires { out.old ≡ record { text = []; room = 96 } }
+    requires { out.old ≡ record { text = []; room = NOTE_ROOM } }
     ensures { out.new.text ≡ end_note end }
 {
     match end {
@@ -39,7 +60,7 @@ pub(crate) fn put_end_note(out: &mut Scratch, end: ReplayEnd)
 }
 
 fn put_bad_line(out: &mut Scratch, line: u64, at: u64)
-    requires { out.old ≡ record { text = []; room = 96 } }
+    requires { out.old ≡ record { text = []; room = NOTE_ROOM } }
     ensures { out.new.text ≡ bad_line_text line at }
 {
     put(out, b"line ");

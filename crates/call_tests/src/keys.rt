@@ -1,7 +1,8 @@
 //! Keys that are looked up, names of types, HTTP dates, and trees with the keys of their documents.
 
 use cdni_base::{
-    Ignored, Key, Listing, Scratch, Target, TextList, TypeName, is_same_key, put_date, url_key,
+    Endpoint, HostName, Ignored, Key, Listing, Scratch, Target, TextList, TypeName, is_same_key,
+    put_date, url_key,
 };
 use listing::Text;
 use metadata_objects::{HostIndex, KeyList, Tree};
@@ -67,34 +68,61 @@ fn keys_are_looked_up(rt: HostRuntime) -> Result<(), Fail> {
     Ok(())
 }
 
+// whether two URLs have one key, where these names are ignored
+fn is_one_key(
+    alloc: Global,
+    url: &str,
+    given: &[&str],
+    other: &str,
+    others: &[&str],
+) -> Result<bool, Fail> {
+    let key = key_of(alloc, url, &names(alloc, given)?)?;
+    let second = key_of(alloc, other, &names(alloc, others)?)?;
+    Ok(is_same_key(&key, &second))
+}
+
 #[test]
-fn keys_and_hosts_are_compared(rt: HostRuntime) -> Result<(), Fail> {
+fn keys_are_compared(rt: HostRuntime) -> Result<(), Fail> {
     let alloc = rt.alloc();
-    let key = key_of(
-        alloc,
-        "http://v.example/a?x=1&s=2",
-        &names(alloc, &["s", "t"])?,
-    )?;
-    let same = key_of(
-        alloc,
-        "http://v.example/a?t=7&x=1",
-        &names(alloc, &["s", "t"])?,
-    )?;
-    let other = key_of(
-        alloc,
-        "http://v.example/a?x=1&s=2",
-        &names(alloc, &["t", "s"])?,
-    )?;
-    assert!(rt; is_same_key(&key, &same));
-    assert!(rt; !is_same_key(&key, &other));
-    assert!(rt; key.host == other.host);
+    let url = "http://v.example/a?x=1&s=2";
+    assert!(rt;
+        is_one_key(
+            alloc,
+            url,
+            &["s", "t"],
+            "http://v.example/a?t=7&x=1",
+            &["s", "t"]
+        )?
+    );
+    assert!(rt; !is_one_key(alloc, url, &["s", "t"], url, &["t", "s"])?);
+    Ok(())
+}
+
+fn host(alloc: Global, text: &str) -> Result<HostName, Fail> {
+    match Endpoint::read(alloc, text.as_bytes()) {
+        Ok(endpoint) => Ok(endpoint.host),
+        Err(_) => Err(Fail::from("a host")),
+    }
+}
+
+#[test]
+fn hosts_are_looked_up(rt: HostRuntime) -> Result<(), Fail> {
+    let alloc = rt.alloc();
     let mut hosts = HashSet::new(alloc);
-    hosts.insert(key.host.clone()?)?;
-    assert!(rt; hosts.contains(&same.host));
+    hosts.insert(host(alloc, "V.Example")?)?;
+    assert!(rt; hosts.contains(&host(alloc, "v.example")?));
+    assert!(rt; !hosts.contains(&host(alloc, "w.example")?));
+    Ok(())
+}
+
+#[test]
+fn what_is_ignored_is_looked_up(rt: HostRuntime) -> Result<(), Fail> {
+    let alloc = rt.alloc();
     let mut ignored = HashSet::new(alloc);
-    ignored.insert(key.ignored.clone()?)?;
-    assert!(rt; ignored.contains(&same.ignored));
-    assert!(rt; !ignored.contains(&other.ignored));
+    ignored.insert(names(alloc, &["s", "t"])?)?;
+    assert!(rt; ignored.contains(&names(alloc, &["s", "t"])?));
+    assert!(rt; !ignored.contains(&names(alloc, &["t", "s"])?));
+    assert!(rt; !ignored.contains(&Ignored::All));
     Ok(())
 }
 

@@ -5,8 +5,10 @@
 # alone take. With the word `shortest` the shapes are three that hold nothing but the shortest items: windows of 22 bytes,
 # countries of 5, and lists of one list each, 120 deep, at a property that is not read. No bound is claimed for them, since an item
 # takes the same memory however short its text is.
+# Without the word it ends with status 1 where a byte takes more than 150 instructions, or the memory is more than 12 times the text.
 # Usage: bench/metadata.sh [shortest]   (needs valgrind and python3; builds the program by `rt run` where it is not built)
 set -eu
+source "$(dirname "$0")/counting.sh"
 source "$(dirname "$0")/replaying.sh"
 shapes="paths blocks names windows"
 [[ ${1-} == shortest ]] && shapes="short_windows countries deep_lists"
@@ -83,4 +85,8 @@ for shape in $shapes; do
   read -r _ value < <(run "$room/$shape.other")
   awk -v shape="$shape" -v bytes="$many" -v slope="$slope" -v seconds="$seconds" -v grown="$((most - least))" -v value="$((value - least))" \
     'BEGIN { printf "%s, %d bytes: %d instructions a byte, %s s, %.1f times the text in memory, of which the text and the JSON value take %.1f\n", shape, bytes, slope, seconds, grown * 1024 / bytes, value * 1024 / bytes }'
+  if [[ ${1-} != shortest ]]; then
+    within "instructions of a byte ($shape)" "$slope" 150
+    within "memory as a multiple of the text, in tenths ($shape)" "$(((most - least) * 10240 / many))" 120
+  fi
 done

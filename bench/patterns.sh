@@ -1,6 +1,6 @@
 #!/usr/bin/env bash
 # Instructions for each unit of a text that a pattern takes, as the slope between texts of two lengths, counted under
-# callgrind. What is asked for is at most 60 a unit.
+# callgrind. It ends with status 1 where a unit takes more than 60.
 set -euo pipefail
 cd "$(dirname "$0")/../crates/pattern_bench"
 source ../../bench/counting.sh
@@ -22,4 +22,5 @@ for number in 0 1 2; do
     long=$(one_match "$number" 3000)
     echo "${patterns[$number]}: a match of 30, 300, 3,000 bytes takes $short, $middle, $long instructions;" \
         "a unit takes $(((middle - short) / 270)) and $(((long - middle) / 2700))"
+    within "instructions of a unit" "$(((long - middle) / 2700))" 60
 done

@@ -2,8 +2,10 @@
 # Instructions per `get` line of `cdnid replay`, counted under callgrind: a refresh, a document of one host, and 2,000
 # and 20,000 requests, each for a URL of 100 bytes whose query has five pieces. It prints the instructions of each run, and
 # the slope between the two, which is the cost of a line.
+# It ends with status 1 where a line takes more than 5,000.
 # Usage: bench/replay.sh   (needs valgrind; builds the program by `rt run` where it is not built)
 set -eu
+source "$(dirname "$0")/counting.sh"
 source "$(dirname "$0")/replaying.sh"
 
 script() {
@@ -26,3 +28,4 @@ many=$(count 20000)
 echo "2000 lines: $few instructions, $((few / 2000)) a line"
 echo "20000 lines: $many instructions, $((many / 20000)) a line"
 echo "slope: $(((many - few) / 18000)) instructions a line"
+within "instructions of a line" "$(((many - few) / 18000))" 5000

@@ -13,7 +13,8 @@ span_of All len = Whole
 span_of (From first None) len = if nat_lt first len then Part first (len - 1) else Unsatisfiable
 span_of (From first (Some last)) len =
     if nat_lt last first then Whole else (if nat_lt first len then Part first (min last (len - 1)) else Unsatisfiable)
-span_of (Last count) len = if count == 0 then Unsatisfiable else (if len == 0 then Whole else Part (len - count) (len - 1))
+span_of (Last count) len =
+    if count == 0 then Unsatisfiable else (if len == 0 then Whole else Part (len - count) (len - 1))
 
 -- what a part of a body is: the whole, the bytes from `first` to `last`, or none
 abbrev pub part_of : List ℕ → Span → Option (List ℕ)

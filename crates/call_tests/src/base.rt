@@ -1,7 +1,9 @@
 //! Texts, lists, numbers, endpoints, rules and scratches.
 
-use cdni_base::{Endpoint, EndpointFault, Limits, Rule, Scratch};
+use cdni_base::{Endpoint, EndpointFault, Limits, Rule, Scratch, TypeName};
 use listing::{Listing, Text, cut_at, read_decimal, read_digits};
+use std::alloc::Global;
+use std::process::Abort;
 use std::test::Fail;
 
 #[test]
@@ -112,6 +114,10 @@ fn scratches(rt: HostRuntime) -> Result<(), Fail> {
     Ok(())
 }
 
+fn type_name(rt: &impl Abort, alloc: Global, bytes: &[u8]) -> Result<TypeName, Fail> {
+    Ok(TypeName::of(alloc, bytes)?.expect(rt, "a short name"))
+}
+
 #[test]
 fn texts_of_rules(rt: HostRuntime) -> Result<(), Fail> {
     let alloc = rt.alloc();
@@ -127,13 +133,13 @@ fn texts_of_rules(rt: HostRuntime) -> Result<(), Fail> {
         (Rule::NoHost, Some("no-host")),
         (
             Rule::Unenforceable {
-                kind: Text::of(alloc, b"mi.x")?,
+                kind: type_name(&rt, alloc, b"mi.x")?,
             },
             Some("unenforceable mi.x"),
         ),
         (
             Rule::Unenforceable {
-                kind: Text::of(alloc, b"mi.too-long")?,
+                kind: type_name(&rt, alloc, b"mi.too-long")?,
             },
             None,
         ),

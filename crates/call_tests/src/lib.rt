@@ -11,8 +11,10 @@ mod base;
 #[cfg(test)]
 mod json;
 #[cfg(test)]
+mod keys;
+#[cfg(test)]
 mod metadata;
 #[cfg(test)]
 mod places;
 #[cfg(test)]
-mod targets;
+mod urls;

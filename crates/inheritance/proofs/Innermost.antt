@@ -33,7 +33,7 @@ kept_kind : (kind : List ℕ) (found : Option Generic) (object : Generic) → ((
 kept_kind kind None object passes is = is
 kept_kind kind (Some x) object passes is = (bytes_eq-Decides x.kind kind).0 (passes x refl)
 
-overriding_kind : (arrays : List (List Generic)) (object : Generic) → (overriding arrays object).kind ≡ object.kind
+pub overriding_kind : (arrays : List (List Generic)) (object : Generic) → (overriding arrays object).kind ≡ object.kind
 overriding_kind arrays object = kept_kind object.kind (innermost object.kind arrays) object (innermost_passes object.kind arrays) refl
 
 -- the types of the objects that count are those of the objects in whose place they count

@@ -3,7 +3,7 @@
 ghost use Rattle.std.specs.Prelude.{◌≡◌, IfOk, option_map, map};
 ghost use Rattle.std.specs.List.{find};
 ghost use Rattle.metadata_objects.specs.LevelData.{level_view, index_view, hosts_view, paths_view, branches_of, branches_in, objects_in, host_view};
-ghost use Rattle.inheritance.specs.Chain.{matches_target, arrays_at, first_match, chain};
+ghost use Rattle.inheritance.specs.Chain.{matches_target, arrays_at, first_below, chain};
 
 use cdni_base::Target;
 use metadata_objects::{Generic, HostIndex, HostMatch, Level, PathMatch};
@@ -16,7 +16,8 @@ pub(crate) fn chain<'t>(
     index: &'t HostIndex,
     target: &Target,
 ) -> Result<Option<Vec<&'t [Generic]>>, AllocError>
-    ensures { IfOk result (λ found. option_map (λ arrays. map (λ objects. objects.now) arrays.items) found ≡ chain (index_view index.now) target.now) }
+    ensures { IfOk result (λ found.
+        option_map (λ arrays. map (λ objects. objects.now) arrays.items) found ≡ chain (index_view index.now) target.now) }
 {
     match first_host(index.hosts.as_slice(), target) {
         Some(host) => Ok(Some(arrays(alloc, &host.level, target.path.bytes())?)),
@@ -54,7 +55,8 @@ fn arrays<'t>(
     level: &'t Level,
     path: &[u8],
 ) -> Result<Vec<&'t [Generic]>, AllocError>
-    ensures { IfOk result (λ arrays. map (λ objects. objects.now) arrays.items ≡ arrays_at path.now (level_view level.now)) }
+    ensures { IfOk result (λ arrays.
+        map (λ objects. objects.now) arrays.items ≡ arrays_at path.now (level_view level.now)) }
 {
     let mut arrays = Vec::new(alloc);
     let mut here = level;
@@ -76,14 +78,16 @@ fn objects(level: &Level) -> &[Generic]
 
 // the level below this one of the first pattern that matches the path
 fn inner_level<'t>(level: &'t Level, path: &[u8]) -> Option<&'t Level>
-    ensures { option_map (λ inner. level_view inner.now) result ≡ first_match path.now (branches_in (level_view level.now)) }
+    ensures { option_map (λ inner. level_view inner.now) result
+        ≡ first_below path.now (branches_in (level_view level.now)) }
 {
     level_for(&level.paths, path)
 }
 
 // the level of the first pattern that matches the path
 fn level_for<'t>(paths: &'t [PathMatch], path: &[u8]) -> Option<&'t Level>
-    ensures { option_map (λ level. level_view level.now) result ≡ first_match path.now (branches_of (paths_view paths.now)) }
+    ensures { option_map (λ level. level_view level.now) result
+        ≡ first_below path.now (branches_of (paths_view paths.now)) }
 {
     'paths: for path_match in paths {
         if path_match.pattern.matches(path) {

@@ -7,7 +7,8 @@ module _ {Rule : Type 0} where
   -- where none holds: deny, with no number
   abbrev pub first_from : (Rule → Bool) → (Rule → Bool) → ℕ → List Rule → Bool × Option ℕ
   first_from holds allows number [] = (false, None)
-  first_from holds allows number (rule ∷ rules) = if holds rule then (allows rule, Some number) else first_from holds allows (number + 1) rules
+  first_from holds allows number (rule ∷ rules) =
+      if holds rule then (allows rule, Some number) else first_from holds allows (number + 1) rules
 
   -- absent rules allow, with no number; rules are numbered from 1
   abbrev pub first_match : (Rule → Bool) → (Rule → Bool) → Option (List Rule) → Bool × Option ℕ
@@ -23,19 +24,20 @@ module _ {Rule : Type 0} where
   abbrev pub NoneHolds : (Rule → Bool) → List Rule → Type 0
   NoneHolds holds rules = (i : ℕ) (rule : Rule) → slice_get rules i ≡ Some rule → holds rule ≡ false
 
-  -- the test holds of the rule with this number, counted from 1, and of none before it, and this is its action
-  pub record IsFirstToHold (holds allows : Rule → Bool) (rules : List Rule) (allowed : Bool) (number : ℕ) : Type 0 where
-    pub index : ℕ
-    pub rule : Rule
-    pub numbered : number ≡ index + 1
+  -- the rule at this index is the first of which the test holds
+  pub record IsFirst (holds : Rule → Bool) (rules : List Rule) (index : ℕ) (rule : Rule) : Type 0 where
     pub at : slice_get rules index ≡ Some rule
     pub holds_it : holds rule ≡ true
     pub none_before : NoneHolds holds (take index rules)
-    pub decides : allowed ≡ allows rule
+
+  -- this is the action of the first rule of which the test holds, and this its number, counted from 1
+  abbrev pub IsOfFirst : (Rule → Bool) → (Rule → Bool) → List Rule → Bool → ℕ → Type 0
+  IsOfFirst holds allows rules allowed number =
+      (index : ℕ) × (rule : Rule) × IsFirst holds rules index rule × (number ≡ index + 1) × (allowed ≡ allows rule)
 
   -- rules answer the action and number of the first that holds, and deny without a number where none holds
   abbrev pub IsAnswer : (Rule → Bool) → (Rule → Bool) → List Rule → Bool → Option ℕ → Type 0
-  IsAnswer holds allows rules allowed (Some number) = IsFirstToHold holds allows rules allowed number
+  IsAnswer holds allows rules allowed (Some number) = IsOfFirst holds allows rules allowed number
   IsAnswer holds allows rules allowed None = NoneHolds holds rules × (allowed ≡ false)
 
   -- absent rules allow, without a number; else the first that holds decides

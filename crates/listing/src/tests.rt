@@ -1,5 +1,5 @@
 // What no clause says: that the calls succeed, that texts can be looked up, and that rules of one's own can be decided.
-use crate::{AccessList, AccessRule, Listing, ReservedList, Text};
+use crate::{AccessList, AccessRule, Listing, ReservedList, Text, laws};
 use std::collections::HashSet;
 use std::test::Fail;
 
@@ -59,5 +59,6 @@ fn the_first_rule_decides(rt: HostRuntime) -> Result<(), Fail> {
     assert_eq!(rt; list.decide(20), (true, Some(1)));
     assert_eq!(rt; list.decide(10), (true, Some(2)));
     assert_eq!(rt; list.decide(9), (false, None));
+    laws::first_rule_that_holds_decides::<FromOn>();
     Ok(())
 }

@@ -3,6 +3,8 @@
 ghost use Rattle.std.specs.Prelude.{◌≡◌, ◌==◌, ◌<◌, length, position, option_map, IfSome};
 ghost use Rattle.listing.specs.Word.{parts_at};
 
+use memchr::memchr;
+
 /// What stands before the first `byte` of `text` and what stands after it. `None` where there is none.
 #[tactic(auto, unfolding(crate::specs::Word::parts_at))]
 pub fn cut_at(byte: u8, text: &[u8]) -> Option<(&[u8], &[u8])>
@@ -19,5 +21,5 @@ fn place_of(byte: u8, text: &[u8]) -> Option<usize>
     ensures place { result ≡ position (λ x. x == byte) text.now }
     ensures within { IfSome result (λ place. place < length text.now) }
 {
-    text.iter().position(|x| *x == byte)
+    memchr(byte, text)
 }

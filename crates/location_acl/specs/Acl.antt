@@ -12,5 +12,5 @@ abbrev pub rule_holds : Place → LocationRule → Bool
 rule_holds place rule = list_any (holds_place place) rule.footprints
 
 -- the first rule that holds the place decides
-abbrev pub decided : Option (List LocationRule) → Place → Bool × Option ℕ
-decided rules place = first_match (rule_holds place) (λ rule. rule.allow) rules
+abbrev pub location_decision : Option (List LocationRule) → Place → Bool × Option ℕ
+location_decision rules place = first_match (rule_holds place) (λ rule. rule.allow) rules

@@ -97,4 +97,5 @@ IsSomeBlock six text = (block : Block) × IsBlock six text block
 abbrev pub ReadsBlock : Bool → List ℕ → Result Block BlockFault → Type 0
 ReadsBlock six text (Ok block) = IsBlock six text block
 ReadsBlock six text (Err (BadLength n)) = (base : Ip) × AreParts six text base n × (most_of six < n)
-ReadsBlock six text (Err (BadAddress at)) = ((base : Ip) (n : ℕ) → AreParts six text base n → ⊥) × IsLongestFront (IsSomeBlock six) text at
+ReadsBlock six text (Err (BadAddress at)) =
+    ((base : Ip) (n : ℕ) → AreParts six text base n → ⊥) × IsLongestFront (IsSomeBlock six) text at

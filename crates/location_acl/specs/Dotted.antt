@@ -1,5 +1,5 @@
--- IPv4 addresses as texts (RFC 3986, section 3.2.2, IPv4address), and reading them from the left, a byte at a time: what
--- a front of the text says, and the value at its end.
+-- IPv4 addresses as texts (RFC 3986, section 3.2.2, IPv4address), and reading them from the left, a byte at a time:
+-- what a front of the text says, and the value at its end.
 use Rattle.std.specs.Prelude.{◌≡◌, ℕ, ◌+◌, ◌-◌, ◌*◌, ◌<◌, ◌==◌, ◌&&◌, nat_lt, nat_le, List, [], ◌∷◌, ◌++◌, decimal, Option, Some, None, option_map, option_and_then, if◌then◌else◌}
 use Rattle.std.specs.Char.{is_ascii_digit}
 use Rattle.location_acl.specs.declared.dotted.Dotted.{Dotted}
@@ -22,16 +22,20 @@ pub record IsDotted (text : List ℕ) (value : ℕ) : Type 0 where
 abbrev pub number_with : Option ℕ → ℕ → Option ℕ
 number_with None byte = if is_ascii_digit byte then Some (byte - 48) else None
 number_with (Some n) byte =
-    if is_ascii_digit byte && (nat_lt 0 n && nat_le (n * 10 + (byte - 48)) 255) then Some (n * 10 + (byte - 48)) else None
+    if is_ascii_digit byte && (nat_lt 0 n && nat_le (n * 10 + (byte - 48)) 255) then Some (n * 10 + (byte - 48))
+    else None
 
 -- the front of an IPv4 address with one more byte
 abbrev pub dotted_step : Dotted → ℕ → Option Dotted
 dotted_step (First number) byte =
-    if byte == 46 then option_map (λ a. Second a None) number else option_map (λ n. First (Some n)) (number_with number byte)
+    if byte == 46 then option_map (λ a. Second a None) number
+    else option_map (λ n. First (Some n)) (number_with number byte)
 dotted_step (Second a number) byte =
-    if byte == 46 then option_map (λ b. Third a b None) number else option_map (λ n. Second a (Some n)) (number_with number byte)
+    if byte == 46 then option_map (λ b. Third a b None) number
+    else option_map (λ n. Second a (Some n)) (number_with number byte)
 dotted_step (Third a b number) byte =
-    if byte == 46 then option_map (λ c. Fourth a b c None) number else option_map (λ n. Third a b (Some n)) (number_with number byte)
+    if byte == 46 then option_map (λ c. Fourth a b c None) number
+    else option_map (λ n. Third a b (Some n)) (number_with number byte)
 dotted_step (Fourth a b c number) byte = option_map (λ n. Fourth a b c (Some n)) (number_with number byte)
 
 -- the address, where the front is one

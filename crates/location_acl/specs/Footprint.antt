@@ -43,7 +43,8 @@ is_lower_letter byte = is_ascii_lowercase byte
 abbrev pub country_of : List ℕ → Option (ℕ × ℕ)
 country_of [] = None
 country_of (first ∷ []) = None
-country_of (first ∷ second ∷ []) = if is_lower_letter first && is_lower_letter second then Some (first, second) else None
+country_of (first ∷ second ∷ []) =
+    if is_lower_letter first && is_lower_letter second then Some (first, second) else None
 country_of (first ∷ second ∷ third ∷ more) = None
 
 -- the name of a type of footprints

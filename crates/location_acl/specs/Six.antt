@@ -1,5 +1,5 @@
--- IPv6 addresses as texts (RFC 4291, section 2.2), and reading them from the left, a byte at a time: what a front of the
--- text says, and the value at its end.
+-- IPv6 addresses as texts (RFC 4291, section 2.2), and reading them from the left, a byte at a time: what a front of
+-- the text says, and the value at its end.
 use Rattle.std.specs.Prelude.{◌≡◌, ℕ, ◌+◌, ◌-◌, ◌*◌, ◌/◌, ◌%◌, ◌<◌, ◌≤◌, true, not, ◌==◌, ◌&&◌, nat_lt, nat_le, ◌⊎◌, List, [], ◌∷◌, ◌++◌, length, fold, replicate, Option, Some, None, option_map, option_and_then, if◌then◌else◌}
 use Rattle.std.specs.Char.{digit_value, is_digit}
 use Rattle.std.specs.List.{list_all}
@@ -24,14 +24,16 @@ abbrev pub AreJoined : List ℕ → List ℕ → Type 0
 AreJoined text [] = text ≡ []
 AreJoined text (group ∷ []) = IsGroup text group
 AreJoined text (group ∷ next ∷ groups) =
-    (digits : List ℕ) × (rest : List ℕ) × (text ≡ digits ++ 58 ∷ rest) × IsGroup digits group × AreJoined rest (next ∷ groups)
+    (digits : List ℕ) × (rest : List ℕ) × (text ≡ digits ++ 58 ∷ rest)
+    × IsGroup digits group × AreJoined rest (next ∷ groups)
 
 -- the same, where an IPv4 address may stand for the last two groups
 abbrev pub AreWritten : List ℕ → List ℕ → Type 0
 AreWritten text [] = text ≡ []
 AreWritten text (group ∷ []) = IsGroup text group
 AreWritten text (group ∷ next ∷ groups) =
-    ((digits : List ℕ) × (rest : List ℕ) × (text ≡ digits ++ 58 ∷ rest) × IsGroup digits group × AreWritten rest (next ∷ groups))
+    ((digits : List ℕ) × (rest : List ℕ) × (text ≡ digits ++ 58 ∷ rest)
+    × IsGroup digits group × AreWritten rest (next ∷ groups))
     ⊎ ((groups ≡ []) × (next < 65536) × IsDotted text (group * 65536 + next))
 
 -- the number that these groups of 16 bits make
@@ -63,12 +65,17 @@ hex_digit byte = if nat_lt (digit_value byte) 16 then Some (digit_value byte) el
 
 -- the first digit of a group
 abbrev pub first_digit : ℕ → Option Digits
-first_digit byte = option_map (λ digit. record { count = 1; group = digit; number = number_with None byte }) (hex_digit byte)
+first_digit byte =
+    option_map (λ digit. record { count = 1; group = digit; number = number_with None byte }) (hex_digit byte)
 
 -- the digits of a group with one more behind them
 abbrev pub with_digit : Digits → ℕ → Option Digits
 with_digit digits byte =
-    if nat_le 4 digits.count then None else option_map (λ digit. record { count = digits.count + 1; group = digits.group * 16 + digit; number = option_and_then (λ n. number_with (Some n) byte) digits.number }) (hex_digit byte)
+    if nat_le 4 digits.count then None else option_map (λ digit. record {
+      count = digits.count + 1;
+      group = digits.group * 16 + digit;
+      number = option_and_then (λ n. number_with (Some n) byte) digits.number;
+    }) (hex_digit byte)
 
 -- the front where the next byte is to begin a group
 abbrev pub begun : Groups → ℕ → Option Six
@@ -78,14 +85,16 @@ begun groups byte = if has_room 1 groups then option_map (Group groups) (first_d
 abbrev pub after_digits : Groups → Digits → ℕ → Option Six
 after_digits groups digits byte =
     if byte == 58 then (if has_room 2 groups then Some (Joined (with_group digits.group groups)) else None)
-    else (if byte == 46 then (if has_room_for_dotted groups then option_map (λ a. Tail groups (Second a None)) digits.number else None)
+    else (if byte == 46 then
+    (if has_room_for_dotted groups then option_map (λ a. Tail groups (Second a None)) digits.number else None)
     else option_map (Group groups) (with_digit digits byte))
 
 -- the front of an IPv6 address with one more byte
 abbrev pub six_step : Six → ℕ → Option Six
 six_step Start byte = if byte == 58 then Some Colon else begun no_groups byte
 six_step Colon byte = if byte == 58 then Some (Gap (with_gap no_groups)) else None
-six_step (Joined groups) byte = if byte == 58 && not groups.has_gap then Some (Gap (with_gap groups)) else begun groups byte
+six_step (Joined groups) byte =
+    if byte == 58 && not groups.has_gap then Some (Gap (with_gap groups)) else begun groups byte
 six_step (Gap groups) byte = begun groups byte
 six_step (Group groups digits) byte = after_digits groups digits byte
 six_step (Tail groups dotted) byte = option_map (Tail groups) (dotted_step dotted byte)

@@ -17,14 +17,18 @@ use Rattle.location_acl.specs.Line.{AreLines, StopsAt, line_of}
 pub record IsLongest (lines : List PlaceLine) (ip : Ip) (i : ℕ) (line : PlaceLine) : Type 0 where
   pub at : slice_get lines i ≡ Some line
   pub holds_it : holds line.block ip ≡ true
-  pub longest : (j : ℕ) (other : PlaceLine) → slice_get lines j ≡ Some other → holds other.block ip ≡ true → other.block.length ≤ line.block.length
-  pub first : (j : ℕ) (other : PlaceLine) → j < i → slice_get lines j ≡ Some other → holds other.block ip ≡ true → other.block.length < line.block.length
+  pub longest : (j : ℕ) (other : PlaceLine) → slice_get lines j ≡ Some other → holds other.block ip ≡ true
+      → other.block.length ≤ line.block.length
+  pub first : (j : ℕ) (other : PlaceLine) → j < i → slice_get lines j ≡ Some other → holds other.block ip ≡ true
+      → other.block.length < line.block.length
 
 -- the place of an address: that of this line, or neither a number nor a country where no block holds it
 abbrev pub GivesPlace : List PlaceLine → Ip → Place → Type 0
 GivesPlace lines ip place =
-    ((i : ℕ) × (line : PlaceLine) × IsLongest lines ip i line × (place ≡ record { ip = ip; asn = line.asn; country = line.country }))
-    ⊎ (((j : ℕ) (other : PlaceLine) → slice_get lines j ≡ Some other → holds other.block ip ≡ true → ⊥) × (place ≡ record { ip = ip; asn = None; country = None }))
+    ((i : ℕ) × (line : PlaceLine) × IsLongest lines ip i line
+    × (place ≡ record { ip = ip; asn = line.asn; country = line.country }))
+    ⊎ (((j : ℕ) (other : PlaceLine) → slice_get lines j ≡ Some other → holds other.block ip ≡ true → ⊥)
+    × (place ≡ record { ip = ip; asn = None; country = None }))
 
 -- what a text is read as: its lines, or the first line that does not read
 abbrev pub ReadsTable : List ℕ → Result (List PlaceLine) PlaceFault → Type 0
@@ -52,12 +56,14 @@ FitsKind block = block.length ≤ width_of block.base
 -- the first line with this key, where the lines are counted from this number on
 abbrev pub first_with_key : ℕ → List PlaceLine → Bool × ℕ × ℕ → Option ℕ
 first_with_key i [] key = None
-first_with_key i (line ∷ lines) key = if same_key (key_of line.block.base line.block.length) key then Some i else first_with_key (i + 1) lines key
+first_with_key i (line ∷ lines) key =
+    if same_key (key_of line.block.base line.block.length) key then Some i else first_with_key (i + 1) lines key
 
 -- the index finds the first line of each key, and knows which lengths there are
 pub record IsIndexed (lines : List PlaceLine) (found : Bool × ℕ × ℕ → Option ℕ) (lengths : List Bool) : Type 0 where
   pub firsts : (key : Bool × ℕ × ℕ) → found key ≡ first_with_key 0 lines key
-  pub present : (i : ℕ) (line : PlaceLine) → slice_get lines i ≡ Some line → slice_get lengths line.block.length ≡ Some true
+  pub present : (i : ℕ) (line : PlaceLine) → slice_get lines i ≡ Some line
+      → slice_get lengths line.block.length ≡ Some true
   pub wide : length lengths ≡ 129
   pub fits : (i : ℕ) (line : PlaceLine) → slice_get lines i ≡ Some line → FitsKind line.block
 
@@ -72,4 +78,5 @@ first_line bytes = parts_at 10 bytes >>= λ parts. option_map (λ line. (line, p
 -- the better of the best line so far and the next one
 abbrev pub longer_of : Ip → Option PlaceLine → PlaceLine → Option PlaceLine
 longer_of ip None line = if holds line.block ip then Some line else None
-longer_of ip (Some other) line = if holds line.block ip && nat_lt other.block.length line.block.length then Some line else Some other
+longer_of ip (Some other) line =
+    if holds line.block ip && nat_lt other.block.length line.block.length then Some line else Some other

@@ -20,7 +20,8 @@ pub struct LocationRule {
 /// A list of rules.
 pub type LocationRuleList = Listing<LocationRule>;
 
-/// MI.LocationACL: rules, fewer than 2^32, or none given.
+/// MI.LocationACL (RFC 8006, section 4.2.2): rules, fewer than 2^32, or none given.
+/// `LocationAcl::decide` of a `&Place` says whether a delivery is allowed there, and by which rule.
 pub type LocationAcl = AccessList<LocationRule>;
 
 impl<'p> AccessRule<&'p Place> for LocationRule {

@@ -71,11 +71,12 @@ impl Footprint {
         Footprint::read_as(FootprintType::read(kind)?, value)
     }
 
-    /// Reads a value of a footprint of this type: a block of IPv4 or IPv6 addresses, `as` and a decimal number of at most
-    /// 4294967295 without leading zeros, or two lower-case letters (RFC 8006, sections 4.3.5 to 4.3.8). `None` where the
-    /// value is not of the type.
+    /// Reads a value of a footprint of this type: a block of IPv4 or IPv6 addresses, `as` and a decimal number of at
+    /// most 4294967295 without leading zeros, or two lower-case letters (RFC 8006, sections 4.3.5 to 4.3.8). `None` where
+    /// the value is not of the type.
     pub fn read_as(kind: FootprintType, value: &[u8]) -> Option<Footprint>
-        ensures grammar { (footprint : Footprint) → (result ≡ Some footprint) ↔ ((kind ≡ type_of footprint) × IsWritten value.now footprint) }
+        ensures grammar { (footprint : Footprint) →
+            (result ≡ Some footprint) ↔ ((kind ≡ type_of footprint) × IsWritten value.now footprint) }
         ensures value { result ≡ footprint_of_type kind value.now }
     {
         read_value(kind, value)
@@ -162,8 +163,8 @@ pub fn country_of(text: &[u8]) -> Option<(u8, u8)>
     }
 }
 
-/// The number of an autonomous system, `as` and a decimal number, or that it is not known, `-`. `None` where the text is
-/// neither.
+/// The number of an autonomous system, `as` and a decimal number, or that it is not known, `-`. `None` where the text
+/// is neither.
 pub fn read_network(text: &[u8]) -> Option<Option<u32>>
     ensures grammar { (network : Option ℕ) → (result ≡ Some network) ↔ IsNetwork text.now network }
     ensures value { result ≡ optional asn_of text.now }

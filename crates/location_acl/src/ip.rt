@@ -30,7 +30,8 @@ impl Ip {
     pub fn read(text: &[u8]) -> Result<Ip, AddressFault>
         ensures ok { (ip : Ip) → (result ≡ Ok ip) ↔ IsAddress text.now ip }
         ensures value { result_ok result ≡ ip_of text.now }
-        ensures place { (at : ℕ) → result ≡ Err (AddressFault.BadAddress at) → IsLongestFront IsSomeAddress text.now at }
+        ensures place { (at : ℕ) →
+            result ≡ Err (AddressFault.BadAddress at) → IsLongestFront IsSomeAddress text.now at }
     {
         let at_four = match dotted::read(text) {
             Ok(number) => return Ok(Ip::V4(number)),

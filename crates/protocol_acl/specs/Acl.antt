@@ -11,5 +11,5 @@ abbrev pub names : List ℕ → ProtocolRule → Bool
 names protocol rule = list_any (λ name. str_eq_ignore_ascii_case name protocol) rule.protocols
 
 -- the first rule that names the protocol decides
-abbrev pub decided : Option (List ProtocolRule) → List ℕ → Bool × Option ℕ
-decided rules protocol = first_match (names protocol) (λ rule. rule.allow) rules
+abbrev pub protocol_decision : Option (List ProtocolRule) → List ℕ → Bool × Option ℕ
+protocol_decision rules protocol = first_match (names protocol) (λ rule. rule.allow) rules

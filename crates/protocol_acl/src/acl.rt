@@ -19,7 +19,8 @@ pub struct ProtocolRule {
 /// A list of rules.
 pub type ProtocolRuleList = Listing<ProtocolRule>;
 
-/// MI.ProtocolACL: rules, fewer than 2^32, or none given.
+/// MI.ProtocolACL (RFC 8006, section 4.2.4): rules, fewer than 2^32, or none given.
+/// `ProtocolAcl::decide` of a protocol's name, a `&[u8]`, says whether a delivery by it is allowed, and by which rule.
 pub type ProtocolAcl = AccessList<ProtocolRule>;
 
 impl<'p> AccessRule<&'p [u8]> for ProtocolRule {

@@ -1,6 +1,6 @@
 //! What a request asks for.
 
-ghost use Rattle.std.specs.Prelude.{◌≡◌, ◌≤◌, length, drop, IfOk, IfSome, IsTrue, option_map};
+ghost use Rattle.std.specs.Prelude.{◌≡◌, ◌+◌, ◌^◌, ◌<◌, ◌≤◌, length, IfOk, IfSome, IsTrue, option_map};
 ghost use Rattle.std.specs.List.{prefix_len};
 ghost use Rattle.targets.specs.Target.{begins_with, scheme_of, scheme_length, is_before_path, begins_with_digits, is_taken, wrong_byte, IsWrongByte, first_wrong, first_wrong_of_path, path_or_root, port_or_default, target_at, target_after, absolute_target, url_text, Reads, ReadsTarget};
 ghost use Rattle.targets.specs.Endpoint.{endpoint_of, endpoint_with};
@@ -188,11 +188,12 @@ fn read_absolute(alloc: Global, scheme: Protocol, text: &[u8]) -> Result<Target,
     let end = start + length_before_path(&text[start..]);
     let authority = &text[start..end];
     let parts = endpoint_parts(authority)?;
-    if let Some(fault) = first_wrong(text, end) {
+    let rest = &text[end..];
+    if let Some(fault) = first_wrong(rest, end) {
         return Err(fault);
     }
     let secure = scheme == Protocol::Https;
-    Ok(target_at(alloc, authority, parts, secure, &text[end..])?)
+    Ok(target_at(alloc, authority, parts, secure, rest)?)
 }
 
 // a path and a query of this host
@@ -262,16 +263,16 @@ fn port_or_default(secure: bool, port: Option<u16>) -> u16
     }
 }
 
-// the first wrong byte of the path and the query that begin at this place
+// the first wrong byte of a path and a query whose first byte stands at this place
 #[tactic(auto, unfolding(crate::specs::Target::first_wrong))]
 fn first_wrong(text: &[u8], from: usize) -> Option<TargetFault>
-    requires { from ≤ length text.now }
-    ensures first { result ≡ first_wrong from (drop from text.now) }
+    requires { from + length text.now < 2 ^ 64 }
+    ensures first { result ≡ first_wrong from text.now }
     ensures wrong { IfSome result IsWrongByte }
 {
-    'bytes: for at in from..text.len() {
-        if !is_taken(text[at], &text[at + 1..]) {
-            return Some(wrong_byte(text[at], at));
+    'bytes: for (at, byte) in text.iter().enumerate() {
+        if !is_taken(*byte, &text[at + 1..]) {
+            return Some(wrong_byte(*byte, from + at));
         }
     }
     None

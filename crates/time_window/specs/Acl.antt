@@ -15,5 +15,5 @@ abbrev pub holds_moment : ℕ → TimeRule → Bool
 holds_moment moment rule = list_any (holds_second (moment / 1000)) rule.windows
 
 -- the first rule that holds the moment decides
-abbrev pub decided : Option (List TimeRule) → ℕ → Bool × Option ℕ
-decided rules moment = first_match (holds_moment moment) (λ rule. rule.allow) rules
+abbrev pub time_decision : Option (List TimeRule) → ℕ → Bool × Option ℕ
+time_decision rules moment = first_match (holds_moment moment) (λ rule. rule.allow) rules

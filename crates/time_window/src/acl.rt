@@ -27,7 +27,8 @@ pub struct TimeRule {
 /// A list of rules.
 pub type TimeRuleList = Listing<TimeRule>;
 
-/// MI.TimeWindowACL: rules, fewer than 2^32, or none given.
+/// MI.TimeWindowACL (RFC 8006, section 4.2.3): rules, fewer than 2^32, or none given.
+/// `TimeWindowAcl::decide` of a `Moment` says whether a delivery is allowed then, and by which rule.
 pub type TimeWindowAcl = AccessList<TimeRule>;
 
 impl AccessRule<Moment> for TimeRule {

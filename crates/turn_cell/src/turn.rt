@@ -34,7 +34,8 @@ impl<'c, V: Stands> Turn<'c, V> {
         &mut self.value
     }
 
-    /// Gives the turn back to the pass that took it. The value then stands for the given history, which the pass has seen.
+    /// Gives the turn back to the pass that took it. The value then stands for the given history, which the pass has
+    /// seen. A caller that makes one entry, or none, gives it back by `give_entry` or `give_same`.
     pub fn give(self, pass: &mut Pass<V::Entry>)
         ghost history: { List (ℕ × V.Entry) }
         requires turn { IsTaken self }
@@ -60,8 +61,8 @@ impl<'c, V: Stands> Turn<'c, V> {
         drop(guard);
     }
 
-    /// Gives the turn back to the pass that took it, with one entry of this pass more than was taken. The entry is named by
-    /// its snapshot, which is no copy and costs nothing.
+    /// Gives the turn back to the pass that took it, with one entry of this pass more than was taken. The entry is named
+    /// by its snapshot, which is no copy and costs nothing.
     pub fn give_entry(self, pass: &mut Pass<V::Entry>, entry: Snapshot<V::Entry>)
         requires turn { IsTaken self }
         requires pass { HasTaken pass.old self }

@@ -1,15 +1,12 @@
 -- A delivery is allowed exactly where none of the rules forbids it.
-use Rattle.std.proofs.Common.{◌≡◌, ◌↔◌, ℕ, List, Bool, true, false, true≢false, sym, refl, ap, None, Some}
+use Rattle.std.proofs.Common.{◌≡◌, ◌↔◌, ℕ, List, refl, ap, None, Some}
 use Rattle.std.specs.Option.{option_or, option_map_or}
 use Rattle.std.specs.declared.option.Option.{Option}
 use Rattle.cdni_base.specs.declared.rule.Rule.{Rule}
 use Rattle.targets.specs.declared.target.Protocol.{Protocol}
 use Rattle.location_acl.specs.declared.footprint.Place.{Place}
-use Rattle.inheritance.specs.Held.{protocol_of}
-use Rattle.protocol_acl.specs.Acl as protocol
-use Rattle.protocol_acl.specs.declared.acl.ProtocolRule.{ProtocolRule}
 use Rattle.metadata_objects.specs.declared.generic.Generic.{Generic}
-use Rattle.verdict.specs.Verdict.{protocol_name, unenforceable_rule, location_rule, time_rule, protocol_rule, source_rule, list_rule, first_rule, verdict_of, NoneForbids}
+use Rattle.verdict.specs.Verdict.{unenforceable_rule, location_rule, time_rule, protocol_rule, source_rule, list_rule, first_rule, verdict_of, NoneForbids}
 use Rattle.verdict.specs.declared.judging.Verdict.TheVariants.{Allow, Deny}
 
 none_of_two : {A : Type 0} (a b : Option A) → option_or a b ≡ None → (a ≡ None) × (b ≡ None)
@@ -38,9 +35,3 @@ allowed_exactly objects spoken place moment = (
   λ is. parts objects spoken place moment (allow_none (first_rule objects spoken place moment) is),
   λ none. ap (λ found. option_map_or Deny found Allow) (whole objects spoken place moment none),
 )
-
--- a list of protocols that allows forbids nothing
-pub protocol_allows : (objects : List Generic) (spoken : Protocol) (acl : Option (List ProtocolRule)) (name : List ℕ) (answer : Bool × Option ℕ) → Some acl ≡ protocol_of objects → name ≡ protocol_name spoken
-    → answer ≡ protocol.decided acl name → answer.0 ≡ true → None ≡ protocol_rule objects spoken
-protocol_allows objects spoken acl name (true, number) found named decided allowed = rw (← found, ← named, ← decided) refl
-protocol_allows objects spoken acl name (false, number) found named decided allowed = absurd (true≢false (sym allowed))

@@ -451,10 +451,10 @@ fn bodies(rt: HostRuntime) -> Result<(), Fail> {
 // The laws are contracts: to call them is to cite them.
 #[test]
 fn laws_are_cited() {
-    laws::a_text_has_one_endpoint();
-    laws::a_text_has_one_target();
+    targets::laws::a_text_has_one_endpoint();
+    targets::laws::a_text_has_one_target();
+    targets::laws::a_url_is_read_again_as_its_target();
     laws::a_text_has_one_provider_id();
-    laws::a_url_is_read_again_as_its_target();
     laws::ignored_pieces_play_no_part_in_a_key();
     laws::kept_pieces_tell_keys_apart();
 }

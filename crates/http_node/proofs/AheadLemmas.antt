@@ -12,6 +12,7 @@ use Rattle.memchr.specs.Find.{IsFirstByte, is_byte}
 use Rattle.http_node.specs.Lines.{NoFeed}
 use Rattle.http_node.specs.Ahead.{Moves, EndsLine, Goes, StaysShort, TakesPiece}
 use Rattle.http_node.specs.declared.ahead.Piece.TheVariants as piece
+use Rattle.http_node.specs.declared.ahead.TheConstants.{READ_SIZE}
 use Rattle.http_node.specs.declared.lines.TheConstants.{LINE_FEED, LINE_LIMIT}
 
 abbrev plain : ℕ → Bool
@@ -151,7 +152,7 @@ stays_open ahead line window n is none room short =
     (ahead, [], sym (append-nil ahead), subst NoFeed all (feed_nowhere window none), tt, omega (arith, ap length all, w, short))
 
 -- the first line feed ahead ends the line
-pub ends_line : (ahead : List ℕ) (place : ℕ) → IsFirstByte (is_byte LINE_FEED) ahead (Some place) → length ahead ≤ 65536 → EndsLine ahead (drop (place + 1) ahead) (take place ahead)
+pub ends_line : (ahead : List ℕ) (place : ℕ) → IsFirstByte (is_byte LINE_FEED) ahead (Some place) → length ahead ≤ READ_SIZE → EndsLine ahead (drop (place + 1) ahead) (take place ahead)
 ends_line ahead place first short =
     let f = feed_here ahead place first in
     (cut_feed ahead place f.0 f.2 ∙ append_assoc (take place ahead) (LINE_FEED ∷ []) (drop (place + 1) ahead), f.1, omega (arith, length-take place ahead))
@@ -160,7 +161,7 @@ pub moves_whole : (left : Option (List ℕ)) (before after line : List ℕ) → 
 moves_whole left before after line is = record { taken = []; consumed = Consumes-nil left; parts = append-nil before ∙ is ∙ sym (append_assoc line (LINE_FEED ∷ []) after) }
 
 -- the same in the bytes that were read at once
-pub whole_line : (ahead bytes : List ℕ) (from to place : ℕ) → ahead ≡ drop from (take to bytes) → IsFirstByte (is_byte LINE_FEED) ahead (Some place) → length ahead ≤ 65536
+pub whole_line : (ahead bytes : List ℕ) (from to place : ℕ) → ahead ≡ drop from (take to bytes) → IsFirstByte (is_byte LINE_FEED) ahead (Some place) → length ahead ≤ READ_SIZE
     → EndsLine ahead (drop (from + (place + 1)) (take to bytes)) (drop from (take (from + place) bytes))
 whole_line ahead bytes from to place is first short =
     let f = feed_here ahead place first in

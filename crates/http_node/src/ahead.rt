@@ -55,13 +55,14 @@ impl Model for Ahead {
     ghost use Rattle.std.specs.Prelude.{ℕ, ◌<◌, ◌≤◌, List, take, drop};
     ghost use Rattle.std.specs.Vec.{vec_len};
     ghost use Rattle.http_node.specs.Lines.{Buffered};
+    ghost use Rattle.http_node.specs.declared.ahead.TheConstants.{READ_SIZE};
 
     ghost Value = { Buffered };
 
     ghost view = { λ a. record { line = drop a.line_from (take a.line_to a.bytes.items); ahead = drop a.from (take a.to a.bytes.items) } };
 
     ghost invariant = { λ a. (a.line_from ≤ a.line_to) × (a.line_to ≤ vec_len a.bytes) × (a.from ≤ a.to) × (a.to ≤ vec_len a.bytes)
-        × (0 < vec_len a.bytes) × (vec_len a.bytes ≤ 65536) };
+        × (0 < vec_len a.bytes) × (vec_len a.bytes ≤ READ_SIZE) };
 }
 
 impl Ahead {
@@ -91,7 +92,7 @@ impl Ahead {
     // what is ahead
     fn rest(&self) -> &[u8]
         ensures value { result.now ≡ self.now.ahead }
-        ensures short { length result.now ≤ 65536 }
+        ensures short { length result.now ≤ READ_SIZE }
     {
         &self.bytes[self.from..self.to]
     }

@@ -8,5 +8,7 @@ range_text first last len = codes "bytes " ++ decimal first ++ codes "-" ++ deci
 
 -- all of the text was added, or it does not fit and some bytes were
 abbrev pub PutsFront : Room → Room → List ℕ → Bool → Type 0
-PutsFront old new text true = (length old.text + length text ≤ old.room) × (new ≡ record { text = old.text ++ text; room = old.room })
-PutsFront old new text false = (old.room < length old.text + length text) × ((some : List ℕ) × (new ≡ record { text = old.text ++ some; room = old.room }))
+PutsFront old new text true = (length old.text + length text ≤ old.room)
+    × (new ≡ record { text = old.text ++ text; room = old.room })
+PutsFront old new text false = (old.room < length old.text + length text) × ((some : List ℕ)
+    × (new ≡ record { text = old.text ++ some; room = old.room }))

@@ -1,5 +1,5 @@
--- What the value of a Range header asks for (RFC 9110, sections 14.1.1, 14.1.2 and 14.2), where a single range of bytes is
--- all that is understood.
+-- What the value of a Range header asks for (RFC 9110, sections 14.1.1, 14.1.2 and 14.2), where a single range of bytes
+-- is all that is understood.
 use Rattle.std.specs.Prelude.{bytes_eq, ◌≡◌, ◌<◌, ◌≤◌, ◌-◌, ◌^◌, ℕ, Bool, true, ◌==◌, nat_lt, nat_le, min, List, [], ◌∷◌, ◌++◌, length, take, drop, codes, if◌then◌else◌, Option, Some, None}
 use Rattle.std.specs.List.{position_or_len, before_first, after_first}
 use Rattle.std.specs.Option.{option_map_or}
@@ -58,7 +58,8 @@ is_dash b = b == 45
 -- what stands behind the unit, if it has a '-'
 abbrev pub set_of : List ℕ → Want
 set_of text =
-    if nat_lt (position_or_len is_dash text) (length text) then range_of (before_first is_dash text) (after_first is_dash text) else All
+    if nat_lt (position_or_len is_dash text) (length text)
+    then range_of (before_first is_dash text) (after_first is_dash text) else All
 
 -- the text begins with the unit
 abbrev pub has_unit : List ℕ → Bool

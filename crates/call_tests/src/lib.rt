@@ -1,5 +1,5 @@
-//! What no clause says of the crates below the top call: their calls where there is memory, against values from outside; and
-//! that the two readers of JSON texts agree, which is proved.
+//! What no clause says of the crates below the top call: their calls where there is memory, against values from
+//! outside; and that the two readers of JSON texts agree, which is proved.
 #![tactic(auto)]
 
 mod readers;

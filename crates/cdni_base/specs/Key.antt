@@ -47,7 +47,13 @@ kept_query (ignored.Names names) query = joined (filter (is_kept names) (pieces_
 
 -- the key of a target
 abbrev pub key_of : Target → Ignored → KeyParts
-key_of target ignored = record { host = target.host; port = target.port; path = target.path; query = kept_query ignored target.query; ignored = ignored }
+key_of target ignored = record {
+  host = target.host;
+  port = target.port;
+  path = target.path;
+  query = kept_query ignored target.query;
+  ignored = ignored;
+}
 
 -- the URL of a key, with its query or without it
 abbrev pub key_text : Bool → Bool → KeyParts → List ℕ
@@ -73,7 +79,8 @@ same_ignored ignored other = false
 -- all parts of the keys are the same
 abbrev pub same_key : KeyParts → KeyParts → Bool
 same_key key other = nat_eq key.port other.port
-    && (bytes_eq key.path other.path && (bytes_eq key.host other.host && (option_eq bytes_eq key.query other.query && same_ignored key.ignored other.ignored)))
+    && (bytes_eq key.path other.path && (bytes_eq key.host other.host && (option_eq bytes_eq key.query other.query
+    && same_ignored key.ignored other.ignored)))
 
 -- what a hasher is fed of what is ignored: the variant's number, and then the names
 abbrev pub fed_ignored : Ignored → HashWrites

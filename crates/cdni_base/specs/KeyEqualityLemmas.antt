@@ -32,7 +32,12 @@ pub ignored_decides : (a b : Ignored) → Decides (same_ignored a b) (a ≡ b)
 ignored_decides ignored.None ignored.None = (λ e. refl, λ e. refl)
 ignored_decides ignored.All ignored.All = (λ e. refl, λ e. refl)
 ignored_decides (ignored.Names names) (ignored.Names others) =
-    let texts = pointwise_decides bytes_decides names others in (λ e. ap (λ (xs : List (List ℕ)). ignored.Names xs) (texts.0 e), λ e. texts.1 (ap (λ (i : Ignored). texts_of i names) e))
+    let texts =
+    pointwise_decides bytes_decides names others in (
+      λ e. ap (λ (xs : List (List ℕ)). ignored.Names xs)
+          (texts.0 e),
+      λ e. texts.1 (ap (λ (i : Ignored). texts_of i names) e),
+    )
 ignored_decides ignored.None ignored.All = (λ e. absurd (true≢false (sym e)), λ e. sym (ap is_none e))
 ignored_decides ignored.None (ignored.Names others) = (λ e. absurd (true≢false (sym e)), λ e. sym (ap is_none e))
 ignored_decides ignored.All ignored.None = (λ e. absurd (true≢false (sym e)), λ e. sym (ap is_all e))
@@ -53,21 +58,47 @@ query_decides None None = (λ e. refl, λ e. refl)
 query_decides None (Some other) = (λ e. absurd (true≢false (sym e)), λ e. ap is_there e)
 query_decides (Some query) None = (λ e. absurd (true≢false (sym e)), λ e. sym (ap is_there e))
 query_decides (Some query) (Some other) =
-    let texts = bytes_decides query other in (λ e. ap (λ (xs : List ℕ). Some xs) (texts.0 e), λ e. texts.1 (ap (query_or query) e))
+    let texts =
+    bytes_decides query other in (
+      λ e. ap (λ (xs : List ℕ). Some xs) (texts.0 e),
+      λ e. texts.1 (ap
+          (query_or query) e),
+    )
 
 -- the parts are the same
 abbrev SameParts : KeyParts → KeyParts → Type 0
-SameParts a b = (a.port ≡ b.port) × ((a.path ≡ b.path) × ((a.host ≡ b.host) × ((a.query ≡ b.query) × (a.ignored ≡ b.ignored))))
+SameParts a b = (a.port ≡ b.port) × ((a.path ≡ b.path) × ((a.host ≡ b.host) × ((a.query ≡ b.query)
+    × (a.ignored ≡ b.ignored))))
 
 parts_decide : (a b : KeyParts) → Decides (same_key a b) (SameParts a b)
 parts_decide a b =
     both (nat_eq a.port b.port) _ (unsigned_Decides a.port b.port)
     (both (bytes_eq a.path b.path) _ (bytes_decides a.path b.path)
     (both (bytes_eq a.host b.host) _ (bytes_decides a.host b.host)
-    (both (option_eq bytes_eq a.query b.query) (same_ignored a.ignored b.ignored) (query_decides a.query b.query) (ignored_decides a.ignored b.ignored))))
+    (both (option_eq bytes_eq a.query b.query) (same_ignored a.ignored b.ignored) (query_decides a.query b.query)
+    (ignored_decides a.ignored b.ignored))))
 
 pub key_decides : (a b : KeyParts) → Decides (same_key a b) (a ≡ b)
 key_decides a b = (
-  λ e. let same = (parts_decide a b).0 e in λ i. record { host = same.1.1.0 i; port = same.0 i; path = same.1.0 i; query = same.1.1.1.0 i; ignored = same.1.1.1.1 i },
-  λ e. (parts_decide a b).1 (ap (λ k. k.port) e, (ap (λ k. k.path) e, (ap (λ k. k.host) e, (ap (λ k. k.query) e, ap (λ k. k.ignored) e)))),
+  λ e. let same = (parts_decide a b).0 e in λ i. record {
+    host = same.1.1.0 i;
+    port = same.0 i;
+    path = same.1.0 i;
+    query = same.1.1.1.0 i;
+    ignored = same.1.1.1.1 i;
+  },
+  λ e. (parts_decide a b).1 (
+    ap (λ k. k.port) e,
+    (
+      ap (λ k. k.path) e,
+      (
+        ap (λ k. k.host) e,
+        (
+          ap (λ k. k.query) e,
+          ap
+              (λ k. k.ignored) e,
+        ),
+      ),
+    ),
+  ),
 )

@@ -21,4 +21,11 @@ pub record AreInRange (b : Bounds) : Type 0 where
 
 -- the limits where none are given
 abbrev pub default_limits : Bounds
-default_limits = record { cache = 268435456; rows = 20000; triggers = 1000; files = 16; period = 60000; opened = 2 ^ 62 }
+default_limits = record {
+  cache = 268435456;
+  rows = 20000;
+  triggers = 1000;
+  files = 16;
+  period = 60000;
+  opened = 2 ^ 62;
+}

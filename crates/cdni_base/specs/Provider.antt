@@ -29,17 +29,21 @@ IsProviderId text id = IsProvider text × (id.0 ≡ text)
 abbrev pub as_length : List ℕ → ℕ
 as_length text = if slice_index text 0 == 65 then (if slice_index text 1 == 83 then 2 else 1) else 0
 
--- The place of the first byte with which no provider id goes on, or of the end where more has to follow; none where the text
--- is one. First of a qualifier that begins at this place and has so many bytes, then of a number with so many digits.
+-- The place of the first byte with which no provider id goes on, or of the end where more has to follow; none where the
+-- text is one. First of a qualifier that begins at this place and has so many bytes, then of a number with so many
+-- digits.
 abbrev pub wrong_qualifier : List ℕ → ℕ → ℕ → Option ℕ
-wrong_qualifier text start count = if nat_lt 0 count && nat_le count QUALIFIER_MAX && start + count == length text then None else Some (start + min count QUALIFIER_MAX)
+wrong_qualifier text start count = if nat_lt 0 count && nat_le count QUALIFIER_MAX
+    && start + count == length text then None else Some (start + min count QUALIFIER_MAX)
 
 abbrev pub wrong_number : List ℕ → ℕ → Option ℕ
 wrong_number text count = if nat_lt 0 count && nat_le count AS_DIGITS && slice_index text (count + 2) == COLON
-    then wrong_qualifier text (count + 3) (prefix_len is_name_byte (drop (count + 3) text)) else Some (min count AS_DIGITS + 2)
+    then wrong_qualifier text (count + 3) (prefix_len is_name_byte (drop (count + 3) text))
+    else Some (min count AS_DIGITS + 2)
 
 unfoldable pub wrong_place : List ℕ → Option ℕ
-wrong_place text = if as_length text == 2 then wrong_number text (prefix_len is_ascii_digit (drop 2 text)) else Some (as_length text)
+wrong_place text = if as_length text == 2 then wrong_number text (prefix_len is_ascii_digit (drop 2 text))
+    else Some (as_length text)
 
 -- the provider id that the text writes, or its fault
 abbrev pub provider_of : List ℕ → Result ProviderId ProviderFault

@@ -7,5 +7,6 @@ pub record Room : Type 0 where
 
 -- the bytes were added where they fit, and nothing changed where they do not
 abbrev pub Puts : Room → Room → List ℕ → Bool → Type 0
-Puts old new bytes true = (length old.text + length bytes ≤ old.room) × (new ≡ record { text = old.text ++ bytes; room = old.room })
+Puts old new bytes true = (length old.text + length bytes ≤ old.room)
+    × (new ≡ record { text = old.text ++ bytes; room = old.room })
 Puts old new bytes false = (old.room < length old.text + length bytes) × (new ≡ old)

@@ -50,7 +50,8 @@ impl Model for Key {
 
     ghost view = { λ k. record { host = k.host; port = k.port; path = k.path; query = k.query; ignored = k.ignored } };
 
-    ghost invariant = { λ k. (k.http ≡ url_of false k.host k.port k.path k.query) × (k.https ≡ url_of true k.host k.port k.path k.query) };
+    ghost invariant = { λ k. (k.http ≡ url_of false k.host k.port k.path k.query)
+        × (k.https ≡ url_of true k.host k.port k.path k.query) };
 }
 
 /// The key of a target: its host, port and path, and of its query what `ignored` leaves. Names leave out each piece
@@ -279,7 +280,8 @@ fn text_if(any: bool, bytes: Vec<u8>) -> Option<Text>
 
 // adds a piece, behind `&` where there is any before it
 fn add_piece(kept: &mut Vec<u8>, any: bool, piece: &[u8]) -> Result<(), AllocError>
-    ensures { OnOk result (kept.new.items ≡ (if any then kept.old.items ++ AMPERSAND ∷ piece.now else kept.old.items ++ piece.now)) }
+    ensures { OnOk result (kept.new.items ≡ (if any then kept.old.items ++ AMPERSAND ∷ piece.now
+        else kept.old.items ++ piece.now)) }
 {
     if any {
         kept.extend_from_slice(b"&")?;
@@ -289,7 +291,9 @@ fn add_piece(kept: &mut Vec<u8>, any: bool, piece: &[u8]) -> Result<(), AllocErr
 
 // whether these are the pieces of the query that are kept, in order
 fn are_kept_pieces(names: &[Text], query: Option<&[u8]>, kept: Option<&[u8]>) -> bool
-    ensures { IsTrue result ↔ (filter (is_kept names.now) (pieces_of (option_map (λ bytes. bytes.now) query.entry)) ≡ pieces_of (option_map (λ bytes. bytes.now) kept.entry)) }
+    ensures { IsTrue result
+        ↔ (filter (is_kept names.now) (pieces_of (option_map (λ bytes. bytes.now) query.entry)) ≡ pieces_of
+        (option_map (λ bytes. bytes.now) kept.entry)) }
 {
     let mut rest = query;
     let mut left = kept;

@@ -22,8 +22,8 @@ pub fn ignored_pieces_play_no_part_in_a_key()
         key_of (record target { query = query }) (Names names) ≡ key_of target (Names names) }
 {}
 
-/// Two targets have one key exactly where their hosts, ports and paths are the same, and of their queries the same pieces
-/// are kept in the same order.
+/// Two targets have one key exactly where their hosts, ports and paths are the same, and of their queries the same
+/// pieces are kept in the same order.
 pub fn kept_pieces_tell_keys_apart()
     ensures { (target other : Target) (names : List (List ℕ)) →
         (key_of target (Names names) ≡ key_of other (Names names)) ↔ IsSameBut names target other }

@@ -1,5 +1,5 @@
-//! What is asked for and from where: targets and their keys, bodies, the ids of providers, the rules that forbid a delivery,
-//! and the limits of a node.
+//! What is asked for and from where: targets and their keys, bodies, the ids of providers, the rules that forbid a
+//! delivery, and the limits of a node.
 #![tactic(auto)]
 
 mod asked;

@@ -27,11 +27,32 @@ impl Model for Limits {
 
     ghost Value = { Bounds };
 
-    ghost view = { λ l. record { cache = l.cache; rows = l.rows; triggers = l.triggers; files = l.files; period = l.period; opened = l.opened } };
+    ghost view = { λ l. record {
+      cache = l.cache;
+      rows = l.rows;
+      triggers = l.triggers;
+      files = l.files;
+      period = l.period;
+      opened = l.opened;
+    } };
 
-    ghost invariant = { λ l. AreInRange (record { cache = l.cache; rows = l.rows; triggers = l.triggers; files = l.files; period = l.period; opened = l.opened }) };
+    ghost invariant = { λ l. AreInRange (record {
+      cache = l.cache;
+      rows = l.rows;
+      triggers = l.triggers;
+      files = l.files;
+      period = l.period;
+      opened = l.opened;
+    }) };
 
-    ghost inverse = { λ b. record { cache = b.cache; rows = b.rows; triggers = b.triggers; files = b.files; period = b.period; opened = b.opened } };
+    ghost inverse = { λ b. record {
+      cache = b.cache;
+      rows = b.rows;
+      triggers = b.triggers;
+      files = b.files;
+      period = b.period;
+      opened = b.opened;
+    } };
 }
 
 impl Limits {

@@ -56,8 +56,8 @@ impl Rule {
         }
     }
 
-    /// The text of the denial in two parts: the rule's word with the space behind it, and the type or number that follows,
-    /// for which there is room in `digits`. Each is empty where the rule has none.
+    /// The text of the denial in two parts: the rule's word with the space behind it, and the type or number that
+    /// follows, for which there is room in `digits`. Each is empty where the rule has none.
     pub fn text<'a>(&'a self, digits: &'a mut Buffer) -> (&'static [u8], &'a [u8])
         ensures word { result.0.now ≡ rule_word self.now }
         ensures detail { result.1.now ≡ rule_detail self.now }

@@ -1,4 +1,5 @@
-//! Scripts with the answers and the status that they must have: its name, its text, its answers, and its status's number.
+//! Scripts with the answers and the status that they must have: its name, its text, its answers, and its status's
+//! number.
 
 pub const SCRIPTS: [(&str, &str, &str, u8); 78] = [
     ("an empty script", "", "", 0),

@@ -8,7 +8,8 @@ pub record Ticks : Type 0 where
   pub moments : List ℕ
   pub calls : ℕ
 
--- the moment of a call before which there were so many: the last one of the list where it has no more, 0 where it has none
+-- the moment of a call before which there were so many: the last one of the list where it has no more, 0 where it has
+-- none
 abbrev pub moment_at : List ℕ → ℕ → ℕ
 moment_at moments calls = slice_index moments (min calls (length moments - 1))
 

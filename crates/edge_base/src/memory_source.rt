@@ -67,7 +67,8 @@ impl Source for MemorySource {
 
     ghost faults = { λ s. s.faults };
 
-    /// Fails where its number for this call is 0, and else gives that many bytes, as far as there is room and they are left.
+    /// Fails where its number for this call is 0, and else gives that many bytes, as far as there is room and they are
+    /// left.
     fn read(&mut self, buf: &mut [u8]) -> Took
         requires { 0 < length buf.old }
         ensures answer { result ≡ given (length buf.old) self.old }

@@ -52,7 +52,8 @@ impl Source for SteadySource {
     /// Gives as much as there is room for, as far as it is left.
     fn read(&mut self, buf: &mut [u8]) -> Took
         requires { 0 < length buf.old }
-        ensures answer { result ≡ (if length self.old == 0 then Took.End else Took.Some (min (length buf.old) (length self.old))) }
+        ensures answer { result ≡ (if length self.old == 0 then Took.End
+            else Took.Some (min (length buf.old) (length self.old))) }
         ensures rest { self.new ≡ drop (length buf.old) self.old }
         ensures count { IsCount (length buf.new) result }
         ensures bytes { Reads (Some self.old) (Some self.new) buf.new result }

@@ -37,7 +37,8 @@ judged_index (Some index) asked place moment = judged_chain (chain index asked.t
 abbrev pub is_served : List ℕ → Bool
 is_served method = bytes_eq method (codes "GET") || bytes_eq method (codes "HEAD")
 
--- the first rule that forbids the request, of: method, no metadata, no host, unenforceable, location, time, protocol, no
--- source; or the plan
+-- the first rule that forbids the request, of: method, no metadata, no host, unenforceable, location, time, protocol,
+-- no source; or the plan
 unfoldable pub judged : Option Index → Asked → Place → ℕ → Judged
-judged index asked place moment = if is_served asked.method then judged_index index asked place moment else Forbidden rule.Method
+judged index asked place moment = if is_served asked.method then judged_index index asked place moment
+    else Forbidden rule.Method

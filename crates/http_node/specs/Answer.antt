@@ -54,8 +54,11 @@ failed_line (Some fault) = codes "failed " ++ fault_text fault ++ LINE_FEED ∷ 
 
 -- the answer of a reply, where this was noted of the call
 unfoldable pub answer_line : Reply → Option MetaFault → List ℕ
-answer_line (reply.Denied delivery rule) said = codes "denied " ++ decimal delivery ++ SPACE ∷ [] ++ decimal (rule_status rule) ++ SPACE ∷ [] ++ rule_text rule ++ LINE_FEED ∷ []
-answer_line (reply.Miss delivery fetch plan) said = codes "miss " ++ decimal delivery ++ SPACE ∷ [] ++ decimal fetch ++ plan_text plan ++ LINE_FEED ∷ []
+answer_line (reply.Denied delivery rule) said =
+    codes "denied " ++ decimal delivery ++ SPACE ∷ [] ++ decimal
+    (rule_status rule) ++ SPACE ∷ [] ++ rule_text rule ++ LINE_FEED ∷ []
+answer_line (reply.Miss delivery fetch plan) said =
+    codes "miss " ++ decimal delivery ++ SPACE ∷ [] ++ decimal fetch ++ plan_text plan ++ LINE_FEED ∷ []
 answer_line (reply.Full count) said = numbered (codes "full") count
 answer_line (reply.NotOpen number) said = numbered (codes "not-open") number
 answer_line (reply.Due refresh) said = numbered (codes "due") refresh

@@ -30,7 +30,8 @@ Stops (Some place) = Unit {0}
 
 -- what the status of the whole command says of the script, of what is left of it, and of the output
 abbrev pub StatusAt : List ℕ → Option (List ℕ) → Option (List ℕ) → Option (List ℕ) → Status → Type 0
-StatusAt script left old new status.Done = IsAtEnd left × ((answers script).stops ≡ None) × Appends old new (answers script).text
+StatusAt script left old new status.Done = IsAtEnd left × ((answers script).stops ≡ None)
+    × Appends old new (answers script).text
 StatusAt script left old new status.Script = Stops (answers script).stops × Appends old new (answers script).text
 StatusAt script left old new status.Usage = ⊥
 StatusAt script left old new status.ReadFault = AppendsFront old new (answers script).text
@@ -39,25 +40,31 @@ StatusAt script left old new status.Memory = AppendsFront old new (answers scrip
 StatusAt script left old new status.Outside = ⊥
 
 -- the same of the script that the input tells, and the note of the status was given so
-abbrev pub Replays : Option (List ℕ) → Option (List ℕ) → Option (List ℕ) → Option (List ℕ) → (List ℕ → Type 0) → Status → Type 0
-Replays before after old new noted result = (script : List ℕ) × IsTold before script × StatusAt script after old new result × noted (note_of result (answers script).stops)
+abbrev pub Replays : Option (List ℕ) → Option (List ℕ) → Option (List ℕ) → Option (List ℕ) → (List ℕ → Type 0)
+    → Status → Type 0
+Replays before after old new noted result = (script : List ℕ) × IsTold before script
+    × StatusAt script after old new result × noted (note_of result (answers script).stops)
 
--- what it says of the bytes that were read: at the end and at a failed read each line that was read whole is a script line and is
--- answered; a line that is none was read whole, or the input ended in it; at a failed write not all of these answers were written
+-- what it says of the bytes that were read: at the end and at a failed read each line that was read whole is a script
+-- line and is answered; a line that is none was read whole, or the input ended in it; at a failed write not all of
+-- these answers were written
 abbrev pub ReadsAt : List ℕ → Option (List ℕ) → Option (List ℕ) → Option (List ℕ) → Status → Type 0
 ReadsAt bytes left old new status.Done = (answers_read bytes).stops ≡ None
 ReadsAt bytes left old new status.Script = Stops (answers_read bytes).stops ⊎ IsAtEnd left
 ReadsAt bytes left old new status.Usage = ⊥
-ReadsAt bytes left old new status.ReadFault = ((answers_read bytes).stops ≡ None) × Appends old new (answers_read bytes).text
+ReadsAt bytes left old new status.ReadFault = ((answers_read bytes).stops ≡ None)
+    × Appends old new (answers_read bytes).text
 ReadsAt bytes left old new status.WriteFault = AppendsPart old new (answers_read bytes).text
 ReadsAt bytes left old new status.Memory = Unit {0}
 ReadsAt bytes left old new status.Outside = ⊥
 
 abbrev pub ReadsScript : Option (List ℕ) → Option (List ℕ) → Option (List ℕ) → Option (List ℕ) → Status → Type 0
-ReadsScript before after old new result = (bytes : List ℕ) × Consumes before after bytes × ReadsAt bytes after old new result
+ReadsScript before after old new result = (bytes : List ℕ) × Consumes before after bytes
+    × ReadsAt bytes after old new result
 
 -- where input and output tell: a line was read whole that is none, and every answer before it was written
 abbrev pub MeetsNone : Option (List ℕ) → Option (List ℕ) → Option (List ℕ) → Option (List ℕ) → Type 0
 MeetsNone (Some before) (Some after) (Some old) (Some new) =
-    (bytes : List ℕ) × (before ≡ bytes ++ after) × Stops (answers_read bytes).stops × (new ≡ old ++ (answers_read bytes).text)
+    (bytes : List ℕ) × (before ≡ bytes ++ after) × Stops (answers_read bytes).stops
+    × (new ≡ old ++ (answers_read bytes).text)
 MeetsNone before after old new = ⊥

@@ -58,31 +58,46 @@ unfoldable pub is_method : List ℕ → Bool
 is_method text = nat_lt 0 (length text) && nat_le (length text) LONGEST_METHOD && list_all is_token_byte text
 
 unfoldable pub protocol_of : List ℕ → Option Protocol
-protocol_of text = if bytes_eq text (codes "http/1.1") then Some Http else (if bytes_eq text (codes "https/1.1") then Some Https else None)
+protocol_of text = if bytes_eq text (codes "http/1.1") then Some Http
+    else (if bytes_eq text (codes "https/1.1") then Some Https else None)
 
 -- the place of an address, of `-` or `as` and a number, and of `-` or two lower-case letters
 unfoldable pub place_at : List ℕ → List ℕ → List ℕ → Option Place
-place_at address network country = ip_of address >>= λ ip. optional asn_of network >>= λ asn. optional country_of country >>= λ letters.
+place_at address network country = ip_of address >>= λ ip. optional asn_of network
+    >>= λ asn. optional country_of country >>= λ letters.
     Some (record { ip = ip; asn = asn; country = letters })
 
 unfoldable pub asked_of : List ℕ → List ℕ → List ℕ → Option Asked
-asked_of method protocol url = if is_method method then (protocol_of protocol >>= λ spoken. url_target url >>= λ target. Some (record { method = method; protocol = spoken; target = target })) else None
+asked_of method protocol url = if is_method method
+    then (protocol_of protocol >>= λ spoken. url_target url
+    >>= λ target. Some (record { method = method; protocol = spoken; target = target })) else None
 
 -- METHOD PROTOCOL IP ASN CC URL
 unfoldable pub get_of : ℕ → List ℕ → Option Event
-get_of moment text = parts_at SPACE text >>= λ method. parts_at SPACE method.1 >>= λ protocol. parts_at SPACE protocol.1 >>= λ address. parts_at SPACE address.1 >>= λ network. parts_at SPACE network.1 >>= λ country.
-    place_at address.0 network.0 country.0 >>= λ place. option_map (λ asked. Admit asked place moment) (asked_of method.0 protocol.0 country.1)
+get_of moment text = parts_at SPACE text >>= λ method. parts_at SPACE method.1
+    >>= λ protocol. parts_at SPACE protocol.1 >>= λ address. parts_at SPACE address.1
+    >>= λ network. parts_at SPACE network.1 >>= λ country.
+    place_at address.0 network.0 country.0
+    >>= λ place. option_map (λ asked. Admit asked place moment) (asked_of method.0 protocol.0 country.1)
 
 -- ---- the other lines
 
--- the end of a refresh with the metadata that was read and the keys of its documents, or without, and then the fault is noted
+-- the end of a refresh with the metadata that was read and the keys of its documents, or without, and then the fault is
+-- noted
 abbrev pub refreshed : ℕ → ℕ → List KeyParts → Reading Index → Noted
-refreshed refresh moment keys (Ok index) = record { event = RefreshEnd refresh (Some (record { index = index; resources = keys })) moment; note = None }
+refreshed refresh moment keys (Ok index) = record {
+  event = RefreshEnd refresh (Some (record {
+    index = index;
+    resources = keys;
+  })) moment;
+  note = None;
+}
 refreshed refresh moment keys (Err fault) = record { event = RefreshEnd refresh None moment; note = Some fault }
 
 -- R URLS JSON
 unfoldable pub meta_of : ℕ → List ℕ → Option Noted
-meta_of moment text = parts_at SPACE text >>= λ number. number_of number.0 >>= λ refresh. parts_at SPACE number.1 >>= λ urls.
+meta_of moment text = parts_at SPACE text >>= λ number. number_of number.0 >>= λ refresh. parts_at SPACE number.1
+    >>= λ urls.
     option_map (λ keys. refreshed refresh moment keys (host_index_of_text urls.1)) (keys_of urls.0)
 
 -- a call of which nothing is noted
@@ -91,10 +106,12 @@ plain event = record { event = event; note = None }
 
 -- a word and what stands after the space behind it
 abbrev pub worded : ℕ → List ℕ × List ℕ → Option Noted
-worded moment word = if bytes_eq word.0 (codes "meta") then meta_of moment word.1 else (if bytes_eq word.0 (codes "get") then option_map plain (get_of moment word.1) else None)
+worded moment word = if bytes_eq word.0 (codes "meta") then meta_of moment word.1
+    else (if bytes_eq word.0 (codes "get") then option_map plain (get_of moment word.1) else None)
 
 unfoldable pub call_of : ℕ → List ℕ → Option Noted
-call_of moment text = if bytes_eq text (codes "refresh") then Some (plain (RefreshBegin moment)) else (parts_at SPACE text >>= worded moment)
+call_of moment text = if bytes_eq text (codes "refresh") then Some (plain (RefreshBegin moment))
+    else (parts_at SPACE text >>= worded moment)
 
 -- a script line: the pass that calls, and its call
 abbrev pub Scripted : Type 0
@@ -102,7 +119,8 @@ Scripted = ℕ × Noted
 
 -- PASS MOMENT and a call
 unfoldable pub line_of : List ℕ → Option Scripted
-line_of line = parts_at SPACE line >>= λ pass. number_below (2 ^ 32) pass.0 >>= λ number. parts_at SPACE pass.1 >>= λ moment. number_of moment.0 >>= λ at. option_map (λ noted. (number, noted)) (call_of at moment.1)
+line_of line = parts_at SPACE line >>= λ pass. number_below (2 ^ 32) pass.0 >>= λ number. parts_at SPACE pass.1
+    >>= λ moment. number_of moment.0 >>= λ at. option_map (λ noted. (number, noted)) (call_of at moment.1)
 
 -- the entry of a script line
 abbrev pub entry_of : Scripted → Entry
@@ -117,7 +135,8 @@ NoSpace word = IsTrue (list_all (λ byte. not (byte == SPACE)) word)
 -- these words, each with one space behind it, and then the rest
 abbrev pub IsWords : List (List ℕ) → List ℕ → List ℕ → Type 0
 IsWords [] rest text = text ≡ rest
-IsWords (word ∷ words) rest text = (behind : List ℕ) × (text ≡ word ++ SPACE ∷ behind) × NoSpace word × IsWords words rest behind
+IsWords (word ∷ words) rest text = (behind : List ℕ) × (text ≡ word ++ SPACE ∷ behind) × NoSpace word
+    × IsWords words rest behind
 
 -- the decimal text of a number, which is below 2 ^ 64
 abbrev pub IsNumber : List ℕ → ℕ → Type 0
@@ -145,7 +164,8 @@ abbrev pub AreKeys : List (List ℕ) → List KeyParts → Type 0
 AreKeys [] [] = Unit {0}
 AreKeys [] (key ∷ keys) = ⊥
 AreKeys (url ∷ urls) [] = ⊥
-AreKeys (url ∷ urls) (key ∷ keys) = ((target : Target) × IsTarget url None false target × (key ≡ key_of target ignored.None)) × AreKeys urls keys
+AreKeys (url ∷ urls) (key ∷ keys) = ((target : Target) × IsTarget url None false target
+    × (key ≡ key_of target ignored.None)) × AreKeys urls keys
 
 -- refresh
 abbrev pub SaysRefresh : ℕ → List ℕ → Noted → Type 0

@@ -37,7 +37,16 @@ pub record World : Type 0 where
   pub opened : ℕ  -- answers that began something
 
 abbrev pub nothing : Bounds → World
-nothing limits = record { limits = limits; refreshed = 0; refreshes = []; installed = None; generation = 0; delivered = 0; fetched = 0; opened = 0 }
+nothing limits = record {
+  limits = limits;
+  refreshed = 0;
+  refreshes = [];
+  installed = None;
+  generation = 0;
+  delivered = 0;
+  fetched = 0;
+  opened = 0;
+}
 
 -- a refresh of this number that this pass began
 abbrev pub is_open : ℕ → ℕ → OpenRefresh → Bool
@@ -55,7 +64,8 @@ begun_reply w = if w.opened == w.limits.opened then reply.Full w.opened else rep
 
 -- before the begin of the installed refresh and the period, the moment at which the next one is due
 abbrev pub next_after : World → ℕ → Installed → Option ℕ
-next_after w moment installed = if nat_lt moment (installed.moment + w.limits.period) then Some (min (installed.moment + w.limits.period) (2 ^ 64 - 1)) else None
+next_after w moment installed = if nat_lt moment (installed.moment + w.limits.period)
+    then Some (min (installed.moment + w.limits.period) (2 ^ 64 - 1)) else None
 
 abbrev pub next_due : World → ℕ → Option ℕ
 next_due w moment = option_and_then (next_after w moment) w.installed
@@ -65,7 +75,11 @@ begin_reply w (Some next) = reply.NotDue next
 begin_reply w None = begun_reply w
 
 abbrev pub after_begin : World → ℕ → ℕ → Reply → World
-after_begin w pass moment (reply.Due refresh) = record w { refreshed = refresh; refreshes = w.refreshes ++ record { refresh = refresh; pass = pass; moment = moment } ∷ []; opened = w.opened + 1 }
+after_begin w pass moment (reply.Due refresh) = record w {
+  refreshed = refresh;
+  refreshes = w.refreshes ++ record { refresh = refresh; pass = pass; moment = moment } ∷ [];
+  opened = w.opened + 1;
+}
 after_begin w pass moment _ = w
 
 -- ---- a refresh ends
@@ -95,13 +109,15 @@ abbrev pub ended : World → ℕ → ℕ → World
 ended w refresh pass = record w { refreshes = without refresh pass w.refreshes }
 
 abbrev pub after_installed : World → ℕ → TreeData → ℕ → Reply → World
-after_installed w refresh tree moment (reply.Installed generation) = record w { installed = Some (record { tree = tree; refresh = refresh; moment = moment }); generation = generation }
+after_installed w refresh tree moment (reply.Installed generation) =
+    record w { installed = Some (record { tree = tree; refresh = refresh; moment = moment }); generation = generation }
 after_installed w refresh tree moment _ = w
 
 abbrev pub after_end : World → ℕ → ℕ → Option TreeData → Option ℕ → World
 after_end w pass refresh tree None = w
 after_end w pass refresh None (Some moment) = ended w refresh pass
-after_end w pass refresh (Some tree) (Some moment) = after_installed (ended w refresh pass) refresh tree moment (installed_reply w (newer w refresh))
+after_end w pass refresh (Some tree) (Some moment) =
+    after_installed (ended w refresh pass) refresh tree moment (installed_reply w (newer w refresh))
 
 -- ---- a request is admitted
 
@@ -112,10 +128,15 @@ judged_reply w (Forbidden rule) = reply.Denied (w.delivered + 1) rule
 -- full of open deliveries, full of what was opened, or judged
 abbrev pub admit_reply : World → Asked → Place → ℕ → Reply
 admit_reply w asked place moment = if w.delivered == w.limits.rows then reply.Full w.delivered else
-    (if w.opened == w.limits.opened then reply.Full w.opened else judged_reply w (judged (option_map (λ i. i.tree.index) w.installed) asked place moment))
+    (if w.opened == w.limits.opened then reply.Full w.opened
+    else judged_reply w (judged (option_map (λ i. i.tree.index) w.installed) asked place moment))
 
 abbrev pub after_admit : World → Reply → World
-after_admit w (reply.Miss delivery fetch plan) = record w { delivered = delivery; fetched = fetch; opened = w.opened + 1 }
+after_admit w (reply.Miss delivery fetch plan) = record w {
+  delivered = delivery;
+  fetched = fetch;
+  opened = w.opened + 1;
+}
 after_admit w (reply.Denied delivery rule) = record w { delivered = delivery; opened = w.opened + 1 }
 after_admit w _ = w
 

@@ -16,7 +16,8 @@ on_first byte (line ∷ lines) = record line { body = byte ∷ line.body } ∷ l
 -- the lines of the bytes; the last one may have no line feed
 unfoldable pub lines_of : List ℕ → List Line
 lines_of [] = []
-lines_of (byte ∷ bytes) = if byte == LINE_FEED then record { body = []; ended = true } ∷ lines_of bytes else on_first byte (lines_of bytes)
+lines_of (byte ∷ bytes) = if byte == LINE_FEED then record { body = []; ended = true } ∷ lines_of bytes
+    else on_first byte (lines_of bytes)
 
 -- a line that has its line feed, or is too long without one
 abbrev pub is_whole : Line → Bool

@@ -15,7 +15,8 @@ use Rattle.http_node.specs.declared.script.Stepped.{Stepped}
 use Rattle.http_node.specs.declared.script.Stepped.TheVariants as stepped
 use Rattle.http_node.specs.declared.script.TheConstants.{SCRIPT_LIMIT}
 
--- a line of so many bytes, its line feed counted, that begins at this place of the script, is not too long and ends in time
+-- a line of so many bytes, its line feed counted, that begins at this place of the script, is not too long and ends in
+-- time
 abbrev pub fits : ℕ → ℕ → Bool
 fits at len = nat_le len LINE_LIMIT && nat_le (at + len) SCRIPT_LIMIT
 
@@ -35,7 +36,8 @@ with_text text rest = record { text = text ++ rest.text; stops = rest.stops }
 unfoldable pub answers_from : Bounds → ℕ → ℕ → History → List Line → Answered
 answers_from limits number at h [] = record { text = []; stops = None }
 answers_from limits number at h (line ∷ lines) = option_map_or
-    (λ l. with_text (answer_line (reply_to limits h (entry_of l)) l.1.note) (answers_from limits (number + 1) (at + (length line.body + 1)) (h ++ entry_of l ∷ []) lines))
+    (λ l. with_text (answer_line (reply_to limits h (entry_of l)) l.1.note) (answers_from limits (number + 1) (at +
+    (length line.body + 1)) (h ++ entry_of l ∷ []) lines))
     (next_line at line) (record { text = []; stops = Some (number, at) })
 
 unfoldable pub answers_of : List Line → Answered
@@ -51,9 +53,11 @@ answers_read bytes = answers_of (whole_lines bytes)
 
 -- ---- one line
 
--- the line's call was taken in, and its answer is this; or the line is no script line; want of memory comes within the limits alone
+-- the line's call was taken in, and its answer is this; or the line is no script line; want of memory comes within the
+-- limits alone
 abbrev pub StepsTo : World → World → ℕ → List ℕ → List ℕ → Stepped → Type 0
-StepsTo old new at body answer stepped.Answered = (l : Scripted) × (next_line at (record { body = body; ended = true }) ≡ Some l)
+StepsTo old new at body answer stepped.Answered = (l : Scripted)
+    × (next_line at (record { body = body; ended = true }) ≡ Some l)
     × (new ≡ after old (entry_of l)) × (answer ≡ answer_line (reply_in old (entry_of l)) l.1.note)
 StepsTo old new at body answer stepped.NotALine = next_line at (record { body = body; ended = true }) ≡ None
 StepsTo old new at body answer stepped.Memory = IsTrue (fits at (length body + 1))
@@ -75,8 +79,10 @@ AppendsPart old new text = (n : ℕ) × (n < length text) × Appends old new (ta
 
 -- what the end of a replay says of the script, of what is left of it, and of the output
 abbrev pub EndsAt : List ℕ → Option (List ℕ) → Option (List ℕ) → Option (List ℕ) → ReplayEnd → Type 0
-EndsAt script left old new replay_end.Done = IsAtEnd left × ((answers script).stops ≡ None) × Appends old new (answers script).text
-EndsAt script left old new (replay_end.NotALine line at) = ((answers script).stops ≡ Some (line, at)) × Appends old new (answers script).text
+EndsAt script left old new replay_end.Done = IsAtEnd left × ((answers script).stops ≡ None)
+    × Appends old new (answers script).text
+EndsAt script left old new (replay_end.NotALine line at) = ((answers script).stops ≡ Some (line, at))
+    × Appends old new (answers script).text
 EndsAt script left old new replay_end.ReadFault = AppendsFront old new (answers script).text
 EndsAt script left old new replay_end.WriteFault = AppendsPart old new (answers script).text
 EndsAt script left old new replay_end.Memory = AppendsFront old new (answers script).text
@@ -85,12 +91,14 @@ EndsAt script left old new replay_end.Memory = AppendsFront old new (answers scr
 abbrev pub Ends : Option (List ℕ) → Option (List ℕ) → Option (List ℕ) → Option (List ℕ) → ReplayEnd → Type 0
 Ends before after old new result = (script : List ℕ) × IsTold before script × EndsAt script after old new result
 
--- what it says of the bytes that were read: at the end and at a failed read each line that was read whole is a script line and is
--- answered; a line that is none was read whole, or the input ended in it; at a failed write not all of these answers were written
+-- what it says of the bytes that were read: at the end and at a failed read each line that was read whole is a script
+-- line and is answered; a line that is none was read whole, or the input ended in it; at a failed write not all of
+-- these answers were written
 abbrev pub ReadsTo : List ℕ → Option (List ℕ) → Option (List ℕ) → Option (List ℕ) → ReplayEnd → Type 0
 ReadsTo bytes left old new replay_end.Done = (answers_read bytes).stops ≡ None
 ReadsTo bytes left old new (replay_end.NotALine line at) = ((answers_read bytes).stops ≡ Some (line, at)) ⊎ IsAtEnd left
-ReadsTo bytes left old new replay_end.ReadFault = ((answers_read bytes).stops ≡ None) × Appends old new (answers_read bytes).text
+ReadsTo bytes left old new replay_end.ReadFault = ((answers_read bytes).stops ≡ None)
+    × Appends old new (answers_read bytes).text
 ReadsTo bytes left old new replay_end.WriteFault = AppendsPart old new (answers_read bytes).text
 ReadsTo bytes left old new replay_end.Memory = Unit {0}
 

@@ -31,7 +31,8 @@ pub(crate) fn judge_request(
     place: &Place,
     moment: Moment,
 ) -> Result<Judged, AllocError>
-    ensures { IfOk result (λ answer. answer ≡ judged (option_map (λ i. index_view i.now) index.entry) asked.now place.now moment) }
+    ensures { IfOk result (λ answer. answer ≡ judged (option_map
+        (λ i. index_view i.now) index.entry) asked.now place.now moment) }
 {
     if !is_served(&asked.method) {
         return Ok(Judged::Forbidden(Rule::Method));
@@ -57,7 +58,8 @@ fn judge_by(
     place: &Place,
     moment: Moment,
 ) -> Result<Judged, AllocError>
-    ensures { IfOk result (λ answer. answer ≡ judged_chain (chain (index_view index.now) asked.now.target) asked.now place.now moment) }
+    ensures { IfOk result (λ answer. answer ≡ judged_chain (chain
+        (index_view index.now) asked.now.target) asked.now place.now moment) }
 {
     let Some(effective) = effective(alloc, index, &asked.target)? else {
         return Ok(Judged::Forbidden(Rule::NoHost));

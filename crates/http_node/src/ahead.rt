@@ -59,9 +59,13 @@ impl Model for Ahead {
 
     ghost Value = { Buffered };
 
-    ghost view = { λ a. record { line = drop a.line_from (take a.line_to a.bytes.items); ahead = drop a.from (take a.to a.bytes.items) } };
+    ghost view = { λ a. record {
+      line = drop a.line_from (take a.line_to a.bytes.items);
+      ahead = drop a.from (take a.to a.bytes.items);
+    } };
 
-    ghost invariant = { λ a. (a.line_from ≤ a.line_to) × (a.line_to ≤ vec_len a.bytes) × (a.from ≤ a.to) × (a.to ≤ vec_len a.bytes)
+    ghost invariant = { λ a. (a.line_from ≤ a.line_to) × (a.line_to ≤ vec_len a.bytes) × (a.from ≤ a.to)
+        × (a.to ≤ vec_len a.bytes)
         × (0 < vec_len a.bytes) × (vec_len a.bytes ≤ READ_SIZE) };
 }
 
@@ -115,7 +119,8 @@ impl Ahead {
 
     /// Reads the next line of the source into `line`, without its line feed.
     pub fn next_line<S: Source>(&mut self, source: &mut S, line: &mut Vec<u8>) -> LineRead
-        ensures line { ReadsLine (S.left source.old) (S.left source.new) self.old.ahead self.new.ahead line.new.items result }
+        ensures line { ReadsLine (S.left source.old)
+            (S.left source.new) self.old.ahead self.new.ahead line.new.items result }
         ensures cause { HasLineCause (S.faults source.old) (S.faults source.new) result }
     {
         line.clear();

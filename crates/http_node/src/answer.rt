@@ -87,7 +87,8 @@ fn put_fault(out: &mut Vec<u8>, fault: &MetaFault) -> Result<(), AllocError>
 }
 
 fn put_field(out: &mut Vec<u8>, field: &FieldFault) -> Result<(), AllocError>
-    ensures { OnOk result (out.new.items ≡ out.old.items ++ (codes "field " ++ field.now.path ++ SPACE ∷ [] ++ cause_text field.now.cause)) }
+    ensures { OnOk result (out.new.items ≡ out.old.items ++
+        (codes "field " ++ field.now.path ++ SPACE ∷ [] ++ cause_text field.now.cause)) }
 {
     put(out, b"field ")?;
     put(out, field.path.bytes())?;
@@ -106,7 +107,9 @@ fn cause_text(cause: FieldCause) -> &'static [u8]
 }
 
 fn put_denied(out: &mut Vec<u8>, delivery: u64, rule: &Rule) -> Result<(), AllocError>
-    ensures { OnOk result (out.new.items ≡ out.old.items ++ (codes "denied " ++ decimal delivery ++ SPACE ∷ [] ++ decimal (rule_status rule.now) ++ SPACE ∷ [] ++ rule_text rule.now ++ LINE_FEED ∷ [])) }
+    ensures { OnOk result (out.new.items ≡ out.old.items ++
+        (codes "denied " ++ decimal delivery ++ SPACE ∷ [] ++ decimal
+        (rule_status rule.now) ++ SPACE ∷ [] ++ rule_text rule.now ++ LINE_FEED ∷ [])) }
 {
     put(out, b"denied ")?;
     put_number(out, delivery)?;
@@ -145,7 +148,8 @@ fn put_miss(
     fetch: u64,
     plan: &[Endpoint],
 ) -> Result<(), AllocError>
-    ensures { OnOk result (out.new.items ≡ out.old.items ++ (codes "miss " ++ decimal delivery ++ SPACE ∷ [] ++ decimal fetch ++ plan_text plan.now ++ LINE_FEED ∷ [])) }
+    ensures { OnOk result (out.new.items ≡ out.old.items ++
+        (codes "miss " ++ decimal delivery ++ SPACE ∷ [] ++ decimal fetch ++ plan_text plan.now ++ LINE_FEED ∷ [])) }
 {
     put(out, b"miss ")?;
     put_number(out, delivery)?;

@@ -18,9 +18,9 @@ use std::alloc::Global;
 /// where that fails nothing else changes.
 ///
 /// The status is `Done` where the input was read to its end; `Script` where a line was read that is no script line
-/// and every answer before it was written, and then no other but `Memory`; `Usage` exactly where the words are no command;
-/// `ReadFault` and `WriteFault` exactly where the input's, the output's count of faults rose in this call, as far as a count
-/// that stands at 2^64 - 1 can tell; and `Memory` for want of memory.
+/// and every answer before it was written, and then no other but `Memory`; `Usage` exactly where the words are no
+/// command; `ReadFault` and `WriteFault` exactly where the input's, the output's count of faults rose in this call, as
+/// far as a count that stands at 2^64 - 1 can tell; and `Memory` for want of memory.
 pub fn batch_main<S: Source, K: Sink, E: Sink>(
     alloc: Global,
     words: &[String],
@@ -34,15 +34,21 @@ pub fn batch_main<S: Source, K: Sink, E: Sink>(
 
     // What was read, written and noted, by the status.
     ensures served { is_replay words.now ≡ true
-        → Replays (S.left input.old) (S.left input.new) (K.held output.old) (K.held output.new) (IsNoted (E.held notes.old) (E.held notes.new) (E.faults notes.old) (E.faults notes.new)) result }
-    ensures usage_noted { result ≡ Status.Usage → IsNoted (E.held notes.old) (E.held notes.new) (E.faults notes.old) (E.faults notes.new) (note_of Status.Usage None) }
+        → Replays (S.left input.old) (S.left input.new) (K.held output.old) (K.held output.new) (IsNoted
+        (E.held notes.old) (E.held notes.new) (E.faults notes.old) (E.faults notes.new)) result }
+    ensures usage_noted { result ≡ Status.Usage
+        → IsNoted (E.held notes.old) (E.held notes.new) (E.faults notes.old) (E.faults notes.new)
+        (note_of Status.Usage None) }
     ensures complete { is_replay words.now ≡ true
         → (Rose (S.faults input.old) (S.faults input.new) → ⊥) → (Rose (K.faults output.old) (K.faults output.new) → ⊥)
-        → IfSome (S.left input.old) (λ script. (answers script).stops ≡ None → (result ≡ Status.Done) ⊎ (result ≡ Status.Memory)) }
+        → IfSome (S.left input.old) (λ script. (answers script).stops ≡ None → (result ≡ Status.Done)
+        ⊎ (result ≡ Status.Memory)) }
 
     // What was read, where a line is none: the status is that of the script, but for want of memory.
-    ensures lines { is_replay words.now ≡ true → ReadsScript (S.left input.old) (S.left input.new) (K.held output.old) (K.held output.new) result }
-    ensures script { is_replay words.now ≡ true → MeetsNone (S.left input.old) (S.left input.new) (K.held output.old) (K.held output.new)
+    ensures lines { is_replay words.now ≡ true
+        → ReadsScript (S.left input.old) (S.left input.new) (K.held output.old) (K.held output.new) result }
+    ensures script { is_replay words.now ≡ true
+        → MeetsNone (S.left input.old) (S.left input.new) (K.held output.old) (K.held output.new)
         → (result ≡ Status.Script) ⊎ (result ≡ Status.Memory) }
 
     // The causes of the faults.

@@ -47,7 +47,11 @@ impl Model for Core {
     ghost use Rattle.metadata_objects.specs.contracts.generic.Generic as generic;
     ghost use Rattle.pattern_match.specs.contracts.pattern.Pattern as pattern;
 
-    ghost coded = { Prim.hlevel (codes, level_code (coded_list (coded× pattern.the_row.coded (coded× (coded_list generic.the_row.coded) coded_ℕ)))) };
+    ghost coded = { Prim.hlevel (
+      codes,
+      level_code (coded_list (coded× pattern.the_row.coded (coded×
+          (coded_list generic.the_row.coded) coded_ℕ))),
+    ) };
 
     ghost view = { λ c. record {
       limits = c.limits;
@@ -60,7 +64,8 @@ impl Model for Core {
       opened = c.opened;
     } };
 
-    ghost invariant = { λ c. (c.refreshed + c.delivered ≤ c.opened) × (c.fetched ≤ c.delivered) × (c.generation + length c.refreshes.items ≤ c.refreshed) × (c.opened ≤ c.limits.opened) };
+    ghost invariant = { λ c. (c.refreshed + c.delivered ≤ c.opened) × (c.fetched ≤ c.delivered)
+        × (c.generation + length c.refreshes.items ≤ c.refreshed) × (c.opened ≤ c.limits.opened) };
 }
 
 impl Core {
@@ -145,8 +150,10 @@ impl Core {
     }
 
     fn refresh_end(&mut self, pass: u32, refresh: u64, tree: Option<Tree>) -> Reply
-        ensures reply { result ≡ end_reply self.old refresh (option_map tree_view tree) (begun_at self.old refresh pass) }
-        ensures after { self.new ≡ after_end self.old pass refresh (option_map tree_view tree) (begun_at self.old refresh pass) }
+        ensures reply { result ≡ end_reply self.old refresh (option_map tree_view tree)
+            (begun_at self.old refresh pass) }
+        ensures after { self.new ≡ after_end self.old pass refresh (option_map tree_view tree)
+            (begun_at self.old refresh pass) }
     {
         let Some(moment) = self.end_open(pass, refresh) else {
             return Reply::NotOpen { number: refresh };
@@ -247,7 +254,8 @@ impl Core {
 // the place of the open refresh of this number and pass
 fn open_place(refreshes: &[OpenRefresh], refresh: u64, pass: u32) -> Option<usize>
     ensures { MatchOption result (find (is_open refresh pass) refreshes.now ≡ None)
-        (λ i. (i < length refreshes.now) × (find (is_open refresh pass) refreshes.now ≡ slice_get refreshes.now i) × (without refresh pass refreshes.now ≡ remove refreshes.now i)) }
+        (λ i. (i < length refreshes.now) × (find (is_open refresh pass) refreshes.now ≡ slice_get refreshes.now i)
+        × (without refresh pass refreshes.now ≡ remove refreshes.now i)) }
 {
     'refreshes: for i in 0..refreshes.len() {
         if is_open(&refreshes[i], refresh, pass) {

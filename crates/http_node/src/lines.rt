@@ -57,9 +57,11 @@ impl Lines {
         }
     }
 
-    /// Reads the next line of the source. It takes memory only where the line does not stand whole in what was read ahead.
+    /// Reads the next line of the source. It takes memory only where the line does not stand whole in what was read
+    /// ahead.
     pub fn next_line<S: Source>(&mut self, source: &mut S) -> LineRead
-        ensures line { ReadsLine (S.left source.old) (S.left source.new) self.old.ahead self.new.ahead self.new.line result }
+        ensures line { ReadsLine (S.left source.old)
+            (S.left source.new) self.old.ahead self.new.ahead self.new.line result }
         ensures cause { HasLineCause (S.faults source.old) (S.faults source.new) result }
     {
         self.is_joined = !self.ahead.take_whole();

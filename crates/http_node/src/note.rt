@@ -19,7 +19,8 @@ const WANT_OF_MEMORY: &[u8] = b"want of memory\n";
 
 /// Writes the note of a command that ended so before it read a line; a fault of the sink is passed over.
 pub fn note_status<E: Sink>(notes: &mut E, status: Status)
-    ensures { IsNoted (E.held notes.old) (E.held notes.new) (E.faults notes.old) (E.faults notes.new) (note_of status None) }
+    ensures { IsNoted (E.held notes.old) (E.held notes.new) (E.faults notes.old) (E.faults notes.new)
+        (note_of status None) }
 {
     write_note(notes, status_note(status));
 }

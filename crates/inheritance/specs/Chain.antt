@@ -65,4 +65,5 @@ AreLevels path here (objects ∷ next ∷ arrays) =
 -- the arrays are those of the levels of the first HostMatch that matches
 abbrev pub IsChain : Index → Target → List (List Generic) → Type 0
 IsChain index target arrays =
-    (place : ℕ) × (site : Site) × IsFirst (matches_target target) index place site × AreLevels target.path site.level arrays
+    (place : ℕ) × (site : Site) × IsFirst (matches_target target) index place site
+    × AreLevels target.path site.level arrays

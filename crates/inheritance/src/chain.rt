@@ -17,7 +17,8 @@ pub(crate) fn chain<'t>(
     target: &Target,
 ) -> Result<Option<Vec<&'t [Generic]>>, AllocError>
     ensures { IfOk result (λ found.
-        option_map (λ arrays. map (λ objects. objects.now) arrays.items) found ≡ chain (index_view index.now) target.now) }
+        option_map (λ arrays. map (λ objects. objects.now) arrays.items) found ≡ chain
+        (index_view index.now) target.now) }
 {
     match first_host(index.hosts.as_slice(), target) {
         Some(host) => Ok(Some(arrays(alloc, &host.level, target.path.bytes())?)),

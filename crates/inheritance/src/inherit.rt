@@ -15,8 +15,8 @@ use metadata_objects::{Generic, HostIndex};
 use std::alloc::{AllocError, Global};
 
 /// The effective metadata of a target (RFC 8006, section 3.3). Of the levels that apply to it (the first HostMatch that
-/// matches, and at each level the first PathMatch that matches) the innermost that has an object of a type gives its first.
-/// `None` exactly where no HostMatch matches.
+/// matches, and at each level the first PathMatch that matches) the innermost that has an object of a type gives its
+/// first. `None` exactly where no HostMatch matches.
 ///
 /// # Errors
 /// Want of memory.
@@ -28,7 +28,8 @@ pub fn effective<'t>(
     ensures list { IfOk result (λ found. found ≡ option_map effective (chain (index_view index.now) target.now)) }
 
     // The effective object of a type is the first of the innermost array that has one.
-    ensures innermost { (arrays : List (List Generic)) (kind : List ℕ) → chain (index_view index.now) target.now ≡ Some arrays
+    ensures innermost { (arrays : List (List Generic)) (kind : List ℕ)
+        → chain (index_view index.now) target.now ≡ Some arrays
         → IfOk result (λ found. IfSome found (λ objects. find (is_of_kind kind) objects ≡ innermost kind arrays)) }
 {
     effective_object_is_innermost();
@@ -42,7 +43,8 @@ pub fn effective<'t>(
 
 // one object for each type of the arrays
 fn overlaid<'t>(alloc: Global, arrays: &[&'t [Generic]]) -> Result<Vec<&'t Generic>, AllocError>
-    ensures { IfOk result (λ list. map (λ object. object.now) list.items ≡ effective (map (λ objects. objects.now) arrays.now)) }
+    ensures { IfOk result (λ list. map (λ object. object.now) list.items ≡ effective (map
+        (λ objects. objects.now) arrays.now)) }
 {
     let mut list = Vec::new(alloc);
     'arrays: for i in 0..arrays.len() {
@@ -57,8 +59,11 @@ fn add_types<'t>(
     arrays: &[&'t [Generic]],
     objects: &'t [Generic],
 ) -> Result<(), AllocError>
-    ensures { (before : List Generic) → map (λ object. object.now) list.old.items ≡ map (overriding (map (λ objects. objects.now) arrays.now)) (firsts before)
-        → OnOk result (map (λ object. object.now) list.new.items ≡ map (overriding (map (λ objects. objects.now) arrays.now)) (firsts (before ++ objects.now))) }
+    ensures { (before : List Generic)
+        → map (λ object. object.now) list.old.items ≡ map (overriding (map (λ objects. objects.now) arrays.now))
+        (firsts before)
+        → OnOk result (map (λ object. object.now) list.new.items ≡ map (overriding (map
+        (λ objects. objects.now) arrays.now)) (firsts (before ++ objects.now))) }
 {
     'objects: for object in objects {
         if !has_kind(list, object.kind.bytes()) {

@@ -1,4 +1,5 @@
--- What a value of the kit's `json`, which keeps its members in the order of the text and a number as its text, is for `serde_json`.
+-- What a value of the kit's `json`, which keeps its members in the order of the text and a number as its text, is for
+-- `serde_json`.
 use Rattle.std.specs.Prelude.{ℕ, negsuc, List, Bool, true, ◌&&◌, is_some, unwrap_or}
 use Rattle.json.specs.Json as json
 use Rattle.serde_json.specs.Data.{Data, null, boolean, number, string, array, object, Num, negative, Items, no_items, item, Members, no_members, put}

@@ -42,7 +42,8 @@ flag_of path value = or_fault path WrongKind (as_bool value)
 
 -- a whole number from 0 to 2^64 - 1 that is not above max
 abbrev pub whole_of : List ℕ → ℕ → Data → Result ℕ FieldFault
-whole_of path max value = or_fault path WrongKind (option_and_then as_u64 (as_number value)) >>= λ n. or_fault path OutOfRange (if nat_le n max then Some n else None)
+whole_of path max value = or_fault path WrongKind (option_and_then as_u64 (as_number value))
+    >>= λ n. or_fault path OutOfRange (if nat_le n max then Some n else None)
 
 -- the fault is this one, or want of memory
 abbrev pub IsFaultAt : List ℕ → FieldCause → JsonFault → Type 0

@@ -49,7 +49,8 @@ pub fn maybe<'a, V: JsonValue>(
     path: &JsonPath,
     name: &str,
 ) -> Result<Option<&'a V>, JsonFault>
-    ensures { Gives (λ found. option_map (λ v. V.seen v.now) found) result (looked_up path.now name.now (V.seen value.now)) }
+    ensures { Gives (λ found. option_map (λ v. V.seen v.now) found) result (looked_up path.now name.now
+        (V.seen value.now)) }
 {
     if !value.is_object() {
         return Err(fault_at(alloc, path, FieldCause::WrongKind));

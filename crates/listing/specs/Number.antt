@@ -6,7 +6,8 @@ use Rattle.std.specs.declared.option.Option.{Option}
 -- the number that digits write after those of n, where each of them is a digit and the number stays below 2 ^ 64
 abbrev pub number_after : ℕ → List ℕ → Option ℕ
 number_after n [] = Some n
-number_after n (byte ∷ bytes) = if is_ascii_digit byte && nat_lt (n * 10 + (byte - 48)) (2 ^ 64) then number_after (n * 10 + (byte - 48)) bytes else None
+number_after n (byte ∷ bytes) = if is_ascii_digit byte && nat_lt (n * 10 + (byte - 48)) (2 ^ 64)
+    then number_after (n * 10 + (byte - 48)) bytes else None
 
 -- the number that decimal digits write; zeros may lead, and no digits write 0
 abbrev pub number_of_digits : List ℕ → Option ℕ

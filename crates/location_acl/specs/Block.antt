@@ -45,17 +45,20 @@ most_of six = if six then 128 else 32
 -- the number of so many digits with one more behind them; none where no length that fits begins so
 abbrev pub length_with : Bool → ℕ → ℕ → ℕ → Option ℕ
 length_with six number count byte =
-    if nat_lt count 3 && (is_ascii_digit byte && nat_le (number * 10 + (byte - 48)) (most_of six)) then Some (number * 10 + (byte - 48)) else None
+    if nat_lt count 3 && (is_ascii_digit byte && nat_le (number * 10 + (byte - 48)) (most_of six))
+    then Some (number * 10 + (byte - 48)) else None
 
 -- the block of these two texts
 abbrev pub block_from : Bool → Option Ip → Option ℕ → Option Block
 block_from six None length = None
 block_from six (Some base) None = None
-block_from six (Some base) (Some length) = if nat_le length (most_of six) then Some (record { base = base; length = length }) else None
+block_from six (Some base) (Some length) = if nat_le length (most_of six)
+    then Some (record { base = base; length = length }) else None
 
 -- the block that the text is: an address of this kind, a `/`, and a length of at most 32 or 128
 abbrev pub block_of : Bool → List ℕ → Option Block
-block_of six text = option_and_then (λ parts. block_from six (base_of six parts.0) (length_of parts.1)) (parts_at 47 text)
+block_of six text =
+    option_and_then (λ parts. block_from six (base_of six parts.0) (length_of parts.1)) (parts_at 47 text)
 
 -- the address is an IPv6 one where this is true, and else an IPv4 one
 abbrev pub IsOfKind : Bool → Ip → Type 0

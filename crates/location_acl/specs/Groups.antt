@@ -27,7 +27,8 @@ is_whole g = g.has_gap || g.front_len == 8
 -- one more group
 abbrev pub with_group : ℕ → Groups → Groups
 with_group group g =
-    if g.has_gap then record g { back = g.back * 65536 + group; back_len = g.back_len + 1 } else record g { front = g.front * 65536 + group; front_len = g.front_len + 1 }
+    if g.has_gap then record g { back = g.back * 65536 + group; back_len = g.back_len + 1 }
+    else record g { front = g.front * 65536 + group; front_len = g.front_len + 1 }
 
 -- a `::` behind the groups
 abbrev pub with_gap : Groups → Groups

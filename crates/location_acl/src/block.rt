@@ -27,7 +27,8 @@ pub enum BlockFault {
 impl Block {
     ghost use Rattle.location_acl.specs.Block.{holds, block_of, ReadsBlock};
 
-    /// Reads a block: an address, an IPv6 one where `six` is true and else an IPv4 one, a `/`, and 1 to 3 decimal digits.
+    /// Reads a block: an address, an IPv6 one where `six` is true and else an IPv4 one, a `/`, and 1 to 3 decimal
+    /// digits.
     ///
     /// # Errors
     /// `BadLength` where the text is that, but the number of the digits is above 128, or above 32 of an IPv4 address.

@@ -50,7 +50,8 @@ impl FootprintType {
     }
 }
 
-/// A set of places (RFC 8006, section 4.2.2.2): those in a block of addresses, in an autonomous system, or in a country.
+/// A set of places (RFC 8006, section 4.2.2.2): those in a block of addresses, in an autonomous system, or in a
+/// country.
 #[derive(Clone, Copy, Debug, PartialEq, Eq)]
 pub enum Footprint {
     V4(Block),
@@ -65,15 +66,16 @@ impl Footprint {
     /// Reads a value of a footprint of the type that has this name. `None` where no type has it, or the value is not of
     /// the type, as `read_as` says.
     pub fn read(kind: &[u8], value: &[u8]) -> Option<Footprint>
-        ensures grammar { (footprint : Footprint) → (result ≡ Some footprint) ↔ IsFootprint kind.now value.now footprint }
+        ensures grammar { (footprint : Footprint) → (result ≡ Some footprint)
+            ↔ IsFootprint kind.now value.now footprint }
         ensures value { result ≡ footprint_of kind.now value.now }
     {
         Footprint::read_as(FootprintType::read(kind)?, value)
     }
 
     /// Reads a value of a footprint of this type: a block of IPv4 or IPv6 addresses, `as` and a decimal number of at
-    /// most 4294967295 without leading zeros, or two lower-case letters (RFC 8006, sections 4.3.5 to 4.3.8). `None` where
-    /// the value is not of the type.
+    /// most 4294967295 without leading zeros, or two lower-case letters (RFC 8006, sections 4.3.5 to 4.3.8). `None`
+    /// where the value is not of the type.
     pub fn read_as(kind: FootprintType, value: &[u8]) -> Option<Footprint>
         ensures grammar { (footprint : Footprint) →
             (result ≡ Some footprint) ↔ ((kind ≡ type_of footprint) × IsWritten value.now footprint) }

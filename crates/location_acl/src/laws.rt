@@ -29,8 +29,10 @@ pub fn text_has_one_block()
 
 /// A block of the length 0 holds every address of its kind.
 pub fn shortest_block_holds_all()
-    ensures four { (base number : ℕ) → base < 2 ^ 32 → number < 2 ^ 32 → is_in_same_block 0 (V4 base) (V4 number) ≡ true }
-    ensures six { (base number : ℕ) → base < 2 ^ 128 → number < 2 ^ 128 → is_in_same_block 0 (V6 base) (V6 number) ≡ true }
+    ensures four { (base number : ℕ) → base < 2 ^ 32 → number < 2 ^ 32
+        → is_in_same_block 0 (V4 base) (V4 number) ≡ true }
+    ensures six { (base number : ℕ) → base < 2 ^ 128 → number < 2 ^ 128
+        → is_in_same_block 0 (V6 base) (V6 number) ≡ true }
 {}
 
 /// A block of the length 32, or 128 of an IPv6 address, holds its own address alone.

@@ -21,7 +21,8 @@ fn longer_of(ip: Ip, best: Option<PlaceLine>, line: PlaceLine) -> Option<PlaceLi
     }
 }
 
-/// The place that these lines give the address: that of the longest block that holds it, and of equal ones of the first.
+/// The place that these lines give the address: that of the longest block that holds it, and of equal ones of the
+/// first.
 pub fn place_of(lines: &[PlaceLine], ip: Ip) -> Place
     ensures { GivesPlace lines.now ip result }
 {

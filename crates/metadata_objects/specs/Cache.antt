@@ -31,7 +31,8 @@ is_ccid_byte byte = not (nat_lt byte 32) && not (byte == 127)
 
 -- a text of 1 to 255 such bytes
 unfoldable pub ccid_of : List ℕ → Option (List ℕ)
-ccid_of text = if nat_lt 0 (length text) && nat_le (length text) CCID_MAX && list_all is_ccid_byte text then Some text else None
+ccid_of text = if nat_lt 0 (length text) && nat_le (length text) CCID_MAX && list_all is_ccid_byte text
+    then Some text else None
 
 abbrev pub ccid_found : Option Data → Option (Option (List ℕ))
 ccid_found None = Some None

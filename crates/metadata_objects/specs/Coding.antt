@@ -1,5 +1,5 @@
--- A tree as a list of rows, by which a proof tells trees apart where they stand in the state of a crate above. Nothing else
--- reads it: it says nothing of what a tree means.
+-- A tree as a list of rows, by which a proof tells trees apart where they stand in the state of a crate above. Nothing
+-- else reads it: it says nothing of what a tree means.
 use Rattle.std.specs.Prelude.{◌≡◌, ℕ, false, List, [], ◌∷◌, ◌++◌, length, take, drop}
 use Rattle.std.specs.Coded.{Coded, code_by}
 use Rattle.std.proofs.Common.{refl, ◌∙◌, ap}
@@ -38,20 +38,27 @@ branches_again no_branches = refl
 branches_again (branch pattern inner others) = ap (branch pattern inner) (branches_again others)
 
 pub taken : (pattern : Compiled) (objects : List Generic) (below : Branches) (levels : List (Compiled × LevelData))
-    → with_row (pattern, (objects, length (list_of below))) (list_of below ++ levels) ≡ (pattern, level_data objects below) ∷ levels
+    → with_row (pattern, (objects, length (list_of below))) (list_of below ++ levels) ≡
+    (pattern, level_data objects below) ∷ levels
 taken pattern objects below levels =
-    ap (λ front. (pattern, level_data objects (branches_of front)) ∷ drop (length (list_of below)) (list_of below ++ levels)) (take-append_seam (list_of below) levels)
-    ∙ ap (λ inner. (pattern, level_data objects inner) ∷ drop (length (list_of below)) (list_of below ++ levels)) (branches_again below)
+    ap (λ front. (pattern, level_data objects (branches_of front)) ∷ drop (length (list_of below))
+    (list_of below ++ levels)) (take-append_seam (list_of below) levels)
+    ∙ ap (λ inner. (pattern, level_data objects inner) ∷ drop (length (list_of below)) (list_of below ++ levels))
+    (branches_again below)
     ∙ ap (λ rest. (pattern, level_data objects below) ∷ rest) (drop-append_seam (list_of below) levels)
 
 mutual
-  pub levels_at : (pattern : Compiled) (level : LevelData) (rest : List Row) → levels_of (rows_at pattern level rest) ≡ (pattern, level) ∷ levels_of rest
+  pub levels_at : (pattern : Compiled) (level : LevelData) (rest : List Row)
+      → levels_of (rows_at pattern level rest) ≡ (pattern, level) ∷ levels_of rest
   levels_at pattern (level_data objects below) rest =
-      ap (with_row (pattern, (objects, length (list_of below)))) (levels_below below rest) ∙ taken pattern objects below (levels_of rest)
+      ap (with_row (pattern, (objects, length (list_of below)))) (levels_below below rest)
+      ∙ taken pattern objects below (levels_of rest)
 
-  pub levels_below : (below : Branches) (rest : List Row) → levels_of (rows_below below rest) ≡ list_of below ++ levels_of rest
+  pub levels_below : (below : Branches) (rest : List Row)
+      → levels_of (rows_below below rest) ≡ list_of below ++ levels_of rest
   levels_below no_branches rest = refl
-  levels_below (branch pattern inner others) rest = levels_at pattern inner (rows_below others rest) ∙ ap (λ levels. (pattern, inner) ∷ levels) (levels_below others rest)
+  levels_below (branch pattern inner others) rest = levels_at pattern inner (rows_below others rest)
+      ∙ ap (λ levels. (pattern, inner) ∷ levels) (levels_below others rest)
 
 abbrev pub rows_of : LevelData → List Row
 rows_of level = rows_at (record { tokens = []; case_sensitive = false }) level []
@@ -61,4 +68,6 @@ first_level [] = level_data [] no_branches
 first_level (level ∷ levels) = level.1
 
 abbrev pub level_code : Coded (List Row) → Coded LevelData
-level_code rows = code_by (List Row) rows rows_of (λ list. first_level (levels_of list)) (λ level. ap first_level (levels_at (record { tokens = []; case_sensitive = false }) level []))
+level_code rows =
+    code_by (List Row) rows rows_of (λ list. first_level (levels_of list)) (λ level. ap first_level (levels_at
+    (record { tokens = []; case_sensitive = false }) level []))

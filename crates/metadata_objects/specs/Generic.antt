@@ -37,7 +37,8 @@ unfoldable pub understood : List ℕ → Data → Held
 understood kind value =
     if bytes_eq kind (codes "mi.sourcemetadata") then held_as held.Source (sources_in value) else
     (if bytes_eq kind (codes "mi.cache") then held_as held.Cache (ignored_in value) else
-    (if bytes_eq kind (codes "mi.grouping") then held_as held.Grouping (grouping_in value) else understood_list kind value))
+    (if bytes_eq kind (codes "mi.grouping") then held_as held.Grouping (grouping_in value)
+    else understood_list kind value))
 
 -- what is held of an object; one that says so is not understood
 abbrev pub held_of : Bool → List ℕ → Data → Held
@@ -54,7 +55,15 @@ generic_of path n value = do
   mandatory ← flag_or path (codes "mandatory-to-enforce") true value
   redistribute ← flag_or path (codes "safe-to-redistribute") true value
   incomprehensible ← flag_or path (codes "incomprehensible") false value
-  Ok (record { kind = kind; mandatory = mandatory; redistribute = redistribute; held = held_of incomprehensible kind inner }, m)
+  Ok (
+    record {
+      kind = kind;
+      mandatory = mandatory;
+      redistribute = redistribute;
+      held = held_of incomprehensible kind inner;
+    },
+    m,
+  )
 
 -- the objects of a list
 abbrev pub generics_of : List ℕ → ℕ → Items → Reading (List Generic × ℕ)
@@ -74,4 +83,5 @@ pub record IsRead (object : Generic) : Type 0 where
 
 -- the properties of a GenericMetadata that count
 abbrev pub generic_names : List (List ℕ)
-generic_names = codes "href" ∷ codes "generic-metadata-type" ∷ codes "generic-metadata-value" ∷ codes "mandatory-to-enforce" ∷ codes "safe-to-redistribute" ∷ codes "incomprehensible" ∷ []
+generic_names =
+    codes "href" ∷ codes "generic-metadata-type" ∷ codes "generic-metadata-value" ∷ codes "mandatory-to-enforce" ∷ codes "safe-to-redistribute" ∷ codes "incomprehensible" ∷ []

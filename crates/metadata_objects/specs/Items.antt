@@ -8,7 +8,8 @@ use Rattle.serde_json.specs.Find.{as_str}
 -- each item, where all of them read
 unfoldable pub each_of : {A : Type 0} → (Data → Option A) → Items → Option (List A)
 each_of read no_items = Some []
-each_of read (item value values) = option_and_then (λ first. option_map (λ others. first ∷ others) (each_of read values)) (read value)
+each_of read (item value values) =
+    option_and_then (λ first. option_map (λ others. first ∷ others) (each_of read values)) (read value)
 
 -- an item that is a text
 unfoldable pub name_in : Data → Option (List ℕ)

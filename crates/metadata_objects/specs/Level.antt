@@ -24,14 +24,16 @@ metadata_found path n None = Ok ([], n)
 metadata_found path n (Some list) = field (items_of path list) >>= λ items. generics_of path n items
 
 unfoldable pub metadata_of : List ℕ → ℕ → Data → Reading (List Generic × ℕ)
-metadata_of path n value = field (looked_up path (codes "metadata") value) >>= λ found. metadata_found (child_of path (codes "metadata")) n found
+metadata_of path n value = field (looked_up path (codes "metadata") value)
+    >>= λ found. metadata_found (child_of path (codes "metadata")) n found
 
 abbrev pub paths_found : PathReading → List ℕ → ℕ → Option Data → Reading (List (Compiled × LevelData) × ℕ)
 paths_found read path n None = Ok ([], n)
 paths_found read path n (Some list) = field (items_of path list) >>= λ items. all_of read path 0 n items
 
 unfoldable pub paths_of : PathReading → List ℕ → ℕ → Data → Reading (List (Compiled × LevelData) × ℕ)
-paths_of read path n value = field (looked_up path (codes "paths") value) >>= λ found. paths_found read (child_of path (codes "paths")) n found
+paths_of read path n value = field (looked_up path (codes "paths") value)
+    >>= λ found. paths_found read (child_of path (codes "paths")) n found
 
 -- a HostMetadata or PathMetadata whose PathMatch objects read so, and how many objects were counted with its own
 unfoldable pub level_with : PathReading → List ℕ → ℕ → Data → Reading (LevelData × ℕ)
@@ -43,7 +45,8 @@ level_with read path n value = do
 
 -- the level that must stand at a property
 unfoldable pub needed_level : PathReading → List ℕ → List ℕ → ℕ → Data → Reading (LevelData × ℕ)
-needed_level read path name n value = field (needed path name value) >>= λ member. level_with read (child_of path name) n member
+needed_level read path name n value = field (needed path name value)
+    >>= λ member. level_with read (child_of path name) n member
 
 -- ---- PatternMatch and PathMatch
 

@@ -10,7 +10,8 @@ use Rattle.metadata_objects.specs.declared.level.Level.{Level, Level-F, fold-Lev
 use Rattle.metadata_objects.specs.declared.level.PathMatch.{PathMatch, PathMatch-F, fold-PathMatch}
 
 mutual
-  -- a HostMetadata or PathMetadata (RFC 8006, sections 4.1.3 and 4.1.6): its objects, and the PathMatch objects below it
+  -- a HostMetadata or PathMetadata (RFC 8006, sections 4.1.3 and 4.1.6): its objects, and the PathMatch objects below
+  -- it
   pub data LevelData : Type 0 where
     level_data : List Generic → Branches → LevelData
 

@@ -20,7 +20,8 @@ use Rattle.metadata_objects.specs.declared.lists.TheConstants.{SECONDS_MAX}
 
 -- whether the word allows
 abbrev pub action_named : List ℕ → Option Bool
-action_named word = if bytes_eq word (codes "allow") then Some true else (if bytes_eq word (codes "deny") then Some false else None)
+action_named word = if bytes_eq word (codes "allow") then Some true
+    else (if bytes_eq word (codes "deny") then Some false else None)
 
 abbrev pub action_found : Option Data → Option Bool
 action_found None = Some false
@@ -64,7 +65,8 @@ abbrev pub joined : List (List Footprint) → List Footprint
 joined lists = flat_map (λ list. list) lists
 
 unfoldable pub location_rule_in : Data → Option LocationRule
-location_rule_in value = listed_in footprints_in (codes "footprints") value >>= λ lists. action_in value >>= λ allow. Some (record { footprints = joined lists; allow = allow })
+location_rule_in value = listed_in footprints_in (codes "footprints") value >>= λ lists. action_in value
+    >>= λ allow. Some (record { footprints = joined lists; allow = allow })
 
 unfoldable pub locations_in : Data → Option (Option (List LocationRule))
 locations_in value = rules_in location_rule_in (codes "locations") value >>= few_rules
@@ -73,13 +75,16 @@ locations_in value = rules_in location_rule_in (codes "locations") value >>= few
 
 -- a whole number of seconds, at most 2 ^ 53
 unfoldable pub seconds_in : List ℕ → Data → Option ℕ
-seconds_in name value = get name value >>= λ member. as_number member >>= λ number. as_u64 number >>= λ n. if nat_le n SECONDS_MAX then Some n else None
+seconds_in name value = get name value >>= λ member. as_number member >>= λ number. as_u64 number
+    >>= λ n. if nat_le n SECONDS_MAX then Some n else None
 
 unfoldable pub window_in : Data → Option TimeWindow
-window_in value = seconds_in (codes "start") value >>= λ start. seconds_in (codes "end") value >>= λ last. Some (record { start = start; end = last })
+window_in value = seconds_in (codes "start") value >>= λ start. seconds_in (codes "end") value
+    >>= λ last. Some (record { start = start; end = last })
 
 unfoldable pub time_rule_in : Data → Option TimeRule
-time_rule_in value = listed_in window_in (codes "windows") value >>= λ windows. action_in value >>= λ allow. Some (record { windows = windows; allow = allow })
+time_rule_in value = listed_in window_in (codes "windows") value >>= λ windows. action_in value
+    >>= λ allow. Some (record { windows = windows; allow = allow })
 
 unfoldable pub times_in : Data → Option (Option (List TimeRule))
 times_in value = rules_in time_rule_in (codes "times") value >>= few_rules
@@ -87,7 +92,8 @@ times_in value = rules_in time_rule_in (codes "times") value >>= few_rules
 -- ---- MI.ProtocolACL
 
 unfoldable pub protocol_rule_in : Data → Option ProtocolRule
-protocol_rule_in value = listed_in name_in (codes "protocols") value >>= λ protocols. action_in value >>= λ allow. Some (record { protocols = protocols; allow = allow })
+protocol_rule_in value = listed_in name_in (codes "protocols") value >>= λ protocols. action_in value
+    >>= λ allow. Some (record { protocols = protocols; allow = allow })
 
 unfoldable pub protocols_in : Data → Option (Option (List ProtocolRule))
 protocols_in value = rules_in protocol_rule_in (codes "protocol-acl") value >>= few_rules

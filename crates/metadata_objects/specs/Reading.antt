@@ -49,10 +49,12 @@ flag_of_found path absent (Some member) = flag_of path member
 
 -- the flag of a property, or what its absence means
 abbrev pub flag_or : List ℕ → List ℕ → Bool → Data → Reading Bool
-flag_or path name absent value = field (looked_up path name value >>= λ found. flag_of_found (child_of path name) absent found)
+flag_or path name absent value = field (looked_up path name value
+    >>= λ found. flag_of_found (child_of path name) absent found)
 
 -- the items one after the other, from the i-th on, each read at its own place after n objects were counted
-unfoldable pub all_of : {A : Type 0} → (List ℕ → ℕ → Data → Reading (A × ℕ)) → List ℕ → ℕ → ℕ → Items → Reading (List A × ℕ)
+unfoldable pub all_of : {A : Type 0} → (List ℕ → ℕ → Data → Reading (A × ℕ)) → List ℕ → ℕ → ℕ → Items
+    → Reading (List A × ℕ)
 all_of read path i n no_items = Ok ([], n)
 all_of read path i n (item value values) = do
   first ← read (item_of path i) n value

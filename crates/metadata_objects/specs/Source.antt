@@ -24,7 +24,8 @@ source_from (Some protocol) (Some endpoints) = Some (record { protocol = protoco
 -- a source: a protocol and endpoints; one that asks for authentication is not understood
 unfoldable pub source_in : Data → Option SourceItem
 source_in value = if is_some (get (codes "acquisition-auth") value) then None
-    else source_from (option_and_then as_str (get (codes "protocol") value)) (option_and_then (each_of endpoint_in) (option_and_then as_array (get (codes "endpoints") value)))
+    else source_from (option_and_then as_str (get (codes "protocol") value)) (option_and_then (each_of endpoint_in)
+    (option_and_then as_array (get (codes "endpoints") value)))
 
 -- how many endpoints all sources have together
 abbrev pub endpoint_count : List SourceItem → ℕ

@@ -8,8 +8,8 @@ ghost use Rattle.metadata_objects.specs.Level.{PathReading, level_with, level_na
 ghost use Rattle.metadata_objects.specs.LevelData.{Index};
 ghost use Rattle.metadata_objects.specs.Reading.{AgreeOn};
 
-/// What a HostIndex is read as has at most 10,000 objects, of which PathMatch objects nest at most 16 deep; each type has 1 to
-/// 127 bytes in lower case, and the sources of one object have at most 16 endpoints together.
+/// What a HostIndex is read as has at most 10,000 objects, of which PathMatch objects nest at most 16 deep; each type
+/// has 1 to 127 bytes in lower case, and the sources of one object have at most 16 endpoints together.
 pub fn a_read_index_is_within_the_limits()
     ensures { (value : Data) (index : Index) → host_index_of value ≡ Ok index → IsWithinLimits index }
 {}
@@ -25,7 +25,8 @@ pub fn unknown_properties_of_a_host_match_change_nothing()
         host_match_of path n value ≡ host_match_of path n other }
 {}
 
-/// A property of a HostMetadata or PathMetadata other than `metadata` and `paths` changes nothing, unless it makes it a Link.
+/// A property of a HostMetadata or PathMetadata other than `metadata` and `paths` changes nothing, unless it makes it a
+/// Link.
 pub fn unknown_properties_of_a_level_change_nothing()
     ensures { (read : PathReading) (path : List ℕ) (n : ℕ) (value other : Data) → AgreeOn level_names value other →
         level_with read path n value ≡ level_with read path n other }
@@ -39,7 +40,8 @@ pub fn unknown_properties_of_a_path_match_change_nothing()
 
 /// A property of a PatternMatch other than `pattern` and `case-sensitive` changes nothing.
 pub fn unknown_properties_of_a_pattern_change_nothing()
-    ensures { (path : List ℕ) (value other : Data) → AgreeOn pattern_names value other → pattern_of path value ≡ pattern_of path other }
+    ensures { (path : List ℕ) (value other : Data) → AgreeOn pattern_names value other
+        → pattern_of path value ≡ pattern_of path other }
 {}
 
 /// A property of a GenericMetadata other than its five changes nothing, unless it makes it a Link.

@@ -16,7 +16,8 @@ use json_read::{JsonPath, JsonValue, list_at, maybe, need};
 use pattern_match::{MAX_PATTERN_LEN, Pattern, PatternFault};
 use std::alloc::Global;
 
-/// The metadata of one level (RFC 8006, sections 4.1.3 and 4.1.6), and the levels below it. It is seen as a `LevelData`.
+/// The metadata of one level (RFC 8006, sections 4.1.3 and 4.1.6), and the levels below it. It is seen as a
+/// `LevelData`.
 #[derive(Drop)]
 #[cycle(level)]
 pub struct Level {
@@ -35,7 +36,8 @@ pub struct PathMatch {
 /// A list of PathMatch objects.
 pub type PathMatchList = Vec<PathMatch>;
 
-// the level at the property `name` of the object at `path`, below which `left` PathMatch objects may nest, after `count` objects
+// the level at the property `name` of the object at `path`, below which `left` PathMatch objects may nest, after
+// `count` objects
 #[cycle(levels)]
 #[tactic(auto, unfolding(crate::specs::Level::needed_level))]
 pub(crate) fn level_at_member<V: JsonValue>(
@@ -47,7 +49,8 @@ pub(crate) fn level_at_member<V: JsonValue>(
     count: u32,
 ) -> Result<(Level, u32), MetaFault>
     requires { IsName name.now }
-    ensures { Gives (λ x. (level_view x.0, x.1)) result (needed_level (path_match_of left) path.now name.now count (V.seen value.now)) }
+    ensures { Gives (λ x. (level_view x.0, x.1)) result (needed_level (path_match_of left) path.now name.now count
+        (V.seen value.now)) }
 {
     let member = need(alloc, value, path, name)?;
     level_at(alloc, member, &path.child(alloc, name)?, left, count)
@@ -63,7 +66,8 @@ fn level_at<V: JsonValue>(
     left: u32,
     count: u32,
 ) -> Result<(Level, u32), MetaFault>
-    ensures { Gives (λ x. (level_view x.0, x.1)) result (level_with (path_match_of left) path.now count (V.seen value.now)) }
+    ensures { Gives (λ x. (level_view x.0, x.1)) result (level_with (path_match_of left) path.now count
+        (V.seen value.now)) }
 {
     refuse_link(alloc, value, path)?;
     let (metadata, count) = metadata_at(alloc, value, path, count)?;
@@ -99,7 +103,8 @@ fn paths_at<V: JsonValue>(
     left: u32,
     count: u32,
 ) -> Result<(PathMatchList, u32), MetaFault>
-    ensures { Gives (λ x. (paths_view x.0.items, x.1)) result (paths_of (path_match_of left) path.now count (V.seen value.now)) }
+    ensures { Gives (λ x. (paths_view x.0.items, x.1)) result (paths_of (path_match_of left) path.now count
+        (V.seen value.now)) }
 {
     let Some(list) = maybe(alloc, value, path, "paths")? else {
         return Ok((Vec::new(alloc), count));
@@ -118,7 +123,8 @@ fn path_matches_at<V: JsonValue>(
     left: u32,
     count: u32,
 ) -> Result<(PathMatchList, u32), MetaFault>
-    ensures { Gives (λ x. (paths_view x.0.items, x.1)) result (all_of (path_match_of left) path.now 0 count (items_of (map V.seen items.now))) }
+    ensures { Gives (λ x. (paths_view x.0.items, x.1)) result (all_of (path_match_of left) path.now 0 count (items_of
+        (map V.seen items.now))) }
 {
     let mut list = Vec::new(alloc);
     let mut so_far = count;
@@ -164,7 +170,8 @@ fn path_match_within<V: JsonValue>(
     left: u32,
     count: u32,
 ) -> Result<(PathMatch, u32), MetaFault>
-    ensures { Gives (λ x. (path_view x.0, x.1)) result (path_match_with (path_match_of left) path.now count (V.seen value.now)) }
+    ensures { Gives (λ x. (path_view x.0, x.1)) result (path_match_with (path_match_of left) path.now count
+        (V.seen value.now)) }
 {
     let count = one_more(count)?;
     refuse_link(alloc, value, path)?;

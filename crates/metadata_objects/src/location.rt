@@ -48,7 +48,8 @@ fn footprints_of<V: JsonValue>(
     alloc: Global,
     value: &V,
 ) -> Result<Option<FootprintList>, AllocError>
-    ensures { IfOk result (λ found. found ≡ option_map joined (listed_in footprints_in (codes "footprints") (V.seen value.now))) }
+    ensures { IfOk result (λ found. found ≡ option_map joined (listed_in footprints_in (codes "footprints")
+        (V.seen value.now))) }
 {
     match value.get("footprints").and_then(V::as_array) {
         Some(items) => joined(alloc, items),
@@ -57,7 +58,8 @@ fn footprints_of<V: JsonValue>(
 }
 
 fn joined<V: JsonValue>(alloc: Global, items: &[V]) -> Result<Option<FootprintList>, AllocError>
-    ensures { IfOk result (λ found. found ≡ option_map joined (each_of footprints_in (items_of (map V.seen items.now)))) }
+    ensures { IfOk result (λ found. found ≡ option_map joined (each_of footprints_in (items_of
+        (map V.seen items.now)))) }
 {
     let mut all = Listing::new(alloc);
     'items: for i in 0..items.len() {
@@ -91,7 +93,8 @@ fn add_values<V: JsonValue>(
     kind: FootprintType,
     items: &[V],
 ) -> Result<bool, AllocError>
-    ensures { IfOk result (λ added. Adds all.old added all.new (each_of (footprint_value_in kind) (items_of (map V.seen items.now)))) }
+    ensures { IfOk result (λ added. Adds all.old added all.new (each_of (footprint_value_in kind) (items_of
+        (map V.seen items.now)))) }
 {
     'items: for i in 0..items.len() {
         let Some(footprint) = value_of(kind, &items[i]) else {

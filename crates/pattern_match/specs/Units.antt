@@ -21,7 +21,8 @@ units (b ∷ high ∷ low ∷ rest) =
 -- the same at a place of a text
 abbrev pub is_encoded_at : List ℕ → ℕ → Bool
 is_encoded_at text at =
-    nat_lt (at + 2) (length text) && is_encoded (slice_index text at) (slice_index text (at + 1)) (slice_index text (at + 2))
+    nat_lt (at + 2) (length text)
+    && is_encoded (slice_index text at) (slice_index text (at + 1)) (slice_index text (at + 2))
 
 -- the bytes that a unit was cut from
 abbrev pub bytes_of : TextUnit → List ℕ

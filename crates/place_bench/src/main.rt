@@ -1,8 +1,8 @@
 //! Looks up the places of addresses, so that the instructions of a look-up can be counted (bench/places.sh), and prints
 //! how many of them have a known place. Arguments: the number of lines of the place file, how many addresses are looked
 //! up, whether by the table (0), by the plain scan (1), or by both, and then how many have the same place by both is
-//! printed (2), and whether they are IPv4 (0) or IPv6 addresses (1). Without arguments the table and the scan are compared on
-//! 2,000 lines.
+//! printed (2), and whether they are IPv4 (0) or IPv6 addresses (1). Without arguments the table and the scan are
+//! compared on 2,000 lines.
 #![tactic(auto)]
 
 use anyhow::{Context, bail};

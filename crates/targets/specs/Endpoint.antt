@@ -33,7 +33,8 @@ address_length text = prefix_len is_address_byte (drop 1 text)
 -- at most 255 bytes together, or 1 to 255 bytes of a name
 unfoldable pub host_length : List ℕ → ℕ
 host_length text = if slice_index text 0 == OPENING
-    then (if nat_lt 0 (address_length text) && nat_le (address_length text) (HOST_NAME_MAX - 2) && slice_index text (address_length text + 1) == CLOSING then address_length text + 2 else 0)
+    then (if nat_lt 0 (address_length text) && nat_le (address_length text) (HOST_NAME_MAX - 2)
+    && slice_index text (address_length text + 1) == CLOSING then address_length text + 2 else 0)
     else min (prefix_len is_name_byte text) HOST_NAME_MAX
 
 -- the length of the longest prefix with which some host begins, where the text begins with none
@@ -43,7 +44,9 @@ host_front text = if slice_index text 0 == OPENING then min (address_length text
 -- how many of the digits some port begins with: at most five that write at most 65535, and the fifth no last 0 of five
 abbrev pub port_front : ℕ → ℕ → List ℕ → ℕ
 port_front value count [] = count
-port_front value count (byte ∷ bytes) = if is_ascii_digit byte && nat_lt count PORT_DIGITS && nat_le (value * 10 + (byte - 48)) PORT_MAX && (nat_lt 0 (value * 10 + (byte - 48)) || nat_lt count (PORT_DIGITS - 1))
+port_front value count (byte ∷ bytes) = if is_ascii_digit byte && nat_lt count PORT_DIGITS
+    && nat_le (value * 10 + (byte - 48)) PORT_MAX
+    && (nat_lt 0 (value * 10 + (byte - 48)) || nat_lt count (PORT_DIGITS - 1))
     then port_front (value * 10 + (byte - 48)) (count + 1) bytes else count
 
 -- a number from 1 to 65535
@@ -52,15 +55,19 @@ in_port_range n = if nat_lt 0 n && nat_le n PORT_MAX then Some n else None
 
 -- at most five digits that write 1 to 65535
 unfoldable pub port_number : List ℕ → Option ℕ
-port_number digits = if nat_le (length digits) PORT_DIGITS then option_and_then in_port_range (number_of_digits digits) else None
+port_number digits = if nat_le (length digits) PORT_DIGITS
+    then option_and_then in_port_range (number_of_digits digits) else None
 
--- the port that these digits write, of which there may be none; or the length of the longest front of a port, its colon counted
+-- the port that these digits write, of which there may be none; or the length of the longest front of a port, its colon
+-- counted
 abbrev pub port_of_digits : List ℕ → Result (Option ℕ) ℕ
-port_of_digits digits = if length digits == 0 then Ok None else option_map_or (λ n. Ok (Some n)) (port_number digits) (Err (port_front 0 0 digits + 1))
+port_of_digits digits = if length digits == 0 then Ok None
+    else option_map_or (λ n. Ok (Some n)) (port_number digits) (Err (port_front 0 0 digits + 1))
 
 -- the port that follows a host: none, or `:` and digits; or the length of the longest front of a port
 unfoldable pub port_of : List ℕ → Result (Option ℕ) ℕ
-port_of text = if length text == 0 then Ok None else (if slice_index text 0 == COLON then port_of_digits (drop 1 text) else Err 0)
+port_of text = if length text == 0 then Ok None
+    else (if slice_index text 0 == COLON then port_of_digits (drop 1 text) else Err 0)
 
 -- an endpoint of this host
 abbrev pub endpoint_at : List ℕ → Result (Option ℕ) ℕ → Result Endpoint EndpointFault
@@ -69,7 +76,8 @@ endpoint_at host (Err at) = Err (BadPort (length host + at))
 
 -- the endpoint that the text writes, or why it writes none
 unfoldable pub endpoint_of : List ℕ → Result Endpoint EndpointFault
-endpoint_of text = if host_length text == 0 then Err (BadHost (host_front text)) else endpoint_at (take (host_length text) text) (port_of (drop (host_length text) text))
+endpoint_of text = if host_length text == 0 then Err (BadHost (host_front text))
+    else endpoint_at (take (host_length text) text) (port_of (drop (host_length text) text))
 
 -- a reader of endpoints answers the reading of the text; only where the text is an endpoint may it find no memory
 abbrev pub ReadsEndpoint : List ℕ → Result Endpoint EndpointFault → Type 0

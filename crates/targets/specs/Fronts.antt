@@ -31,9 +31,11 @@ authority_of rest = take (prefix_len is_before_path rest) rest
 
 -- the text of a target's endpoint: behind its scheme, or the host that is given where it has none
 abbrev pub endpoint_text : List ℕ → Option (List ℕ) → Option (List ℕ)
-endpoint_text text host = option_map_or (λ scheme. Some (authority_of (drop (scheme_length scheme) text))) (scheme_of text) host
+endpoint_text text host =
+    option_map_or (λ scheme. Some (authority_of (drop (scheme_length scheme) text))) (scheme_of text) host
 
 -- a wrong endpoint of a target is found there
 abbrev pub StandsInEndpoint : List ℕ → Option (List ℕ) → Result Target TargetFault → Type 0
-StandsInEndpoint text host (Err (target_fault.BadHost at)) = (authority : List ℕ) × (endpoint_text text host ≡ Some authority) × IsLongestFront IsSomeEndpoint authority at
+StandsInEndpoint text host (Err (target_fault.BadHost at)) = (authority : List ℕ)
+    × (endpoint_text text host ≡ Some authority) × IsLongestFront IsSomeEndpoint authority at
 StandsInEndpoint text host result = Unit {0}

@@ -1,5 +1,5 @@
--- The grammar of hosts, endpoints and targets, as relations between a text and its value (RFC 3986, sections 2 and 3, in the
--- form of this project; RFC 9112, section 3.2).
+-- The grammar of hosts, endpoints and targets, as relations between a text and its value (RFC 3986, sections 2 and 3,
+-- in the form of this project; RFC 9112, section 3.2).
 use Rattle.std.specs.Prelude.{◌≡◌, ℕ, ◌<◌, ◌≤◌, Bool, IsTrue, List, [], ◌∷◌, ◌++◌, length, ◌⊎◌, None, Some, Ok, Err, codes, ◌==◌, ◌||◌}
 use Rattle.std.specs.List.{list_all, concat}
 use Rattle.std.specs.Char.{is_ascii_hexdigit}
@@ -28,7 +28,8 @@ IsName text = (0 < length text) × (length text ≤ HOST_NAME_MAX) × IsTrue (li
 
 -- an address in brackets, at most 255 bytes together: `[`, one or more hexadecimal digits, `:` and `.`, and `]`
 abbrev pub IsBracketed : List ℕ → Type 0
-IsBracketed text = (address : List ℕ) × (text ≡ OPENING ∷ (address ++ CLOSING ∷ [])) × (0 < length address) × (length text ≤ HOST_NAME_MAX) × IsTrue (list_all is_address_byte address)
+IsBracketed text = (address : List ℕ) × (text ≡ OPENING ∷ (address ++ CLOSING ∷ [])) × (0 < length address)
+    × (length text ≤ HOST_NAME_MAX) × IsTrue (list_all is_address_byte address)
 
 -- host (RFC 3986, section 3.2.2)
 abbrev pub IsHost : List ℕ → Type 0
@@ -37,7 +38,8 @@ IsHost text = IsName text ⊎ IsBracketed text
 -- port (RFC 3986, section 3.2.3): 1 to 5 digits that write 1 to 65535
 abbrev pub IsPort : List ℕ → ℕ → Type 0
 IsPort digits port =
-    (0 < length digits) × (length digits ≤ PORT_DIGITS) × IsTrue (all_ascii_digits digits) × (digits_value 10 digits ≡ port) × (1 ≤ port) × (port ≤ PORT_MAX)
+    (0 < length digits) × (length digits ≤ PORT_DIGITS) × IsTrue (all_ascii_digits digits)
+    × (digits_value 10 digits ≡ port) × (1 ≤ port) × (port ≤ PORT_MAX)
 
 -- what follows a host: nothing, or `:` and a port, which may be absent there
 abbrev pub IsPortPart : List ℕ → Option ℕ → Type 0
@@ -47,13 +49,15 @@ IsPortPart text (Some port) = (digits : List ℕ) × (text ≡ COLON ∷ digits)
 -- a host, which reads in lower case, and a port, where one is given (RFC 3986, section 3.2)
 abbrev pub IsEndpoint : List ℕ → Endpoint → Type 0
 IsEndpoint text endpoint =
-    (host : List ℕ) × (rest : List ℕ) × (text ≡ host ++ rest) × IsHost host × (endpoint.host ≡ str_to_ascii_lowercase host) × IsPortPart rest endpoint.port
+    (host : List ℕ) × (rest : List ℕ) × (text ≡ host ++ rest) × IsHost host
+    × (endpoint.host ≡ str_to_ascii_lowercase host) × IsPortPart rest endpoint.port
 
 -- one of these bytes, or pct-encoded: `%` and two hexadecimal digits (RFC 3986, section 2.1)
 abbrev pub IsCharacter : (ℕ → Bool) → List ℕ → Type 0
 IsCharacter test text =
     ((byte : ℕ) × (text ≡ byte ∷ []) × IsTrue (test byte)) ⊎
-    ((high : ℕ) × (low : ℕ) × (text ≡ PERCENT ∷ high ∷ low ∷ []) × IsTrue (is_ascii_hexdigit high) × IsTrue (is_ascii_hexdigit low))
+    ((high : ℕ) × (low : ℕ) × (text ≡ PERCENT ∷ high ∷ low ∷ []) × IsTrue (is_ascii_hexdigit high)
+    × IsTrue (is_ascii_hexdigit low))
 
 -- each is such a character
 abbrev pub AreCharacters : (ℕ → Bool) → List (List ℕ) → Type 0
@@ -101,18 +105,21 @@ IsScheme text Https = str_to_ascii_lowercase text ≡ codes "https://"
 abbrev pub IsAbsolute : List ℕ → Target → Type 0
 IsAbsolute text target =
     (scheme : List ℕ) × (authority : List ℕ) × (rest : List ℕ) × (protocol : Protocol) × (endpoint : Endpoint) ×
-    (text ≡ scheme ++ (authority ++ rest)) × IsScheme scheme protocol × IsEndpoint authority endpoint × IsAt endpoint (is_https protocol) target ×
+    (text ≡ scheme ++ (authority ++ rest)) × IsScheme scheme protocol × IsEndpoint authority endpoint
+    × IsAt endpoint (is_https protocol) target ×
     (IsPathAndQuery rest target.path target.query ⊎ IsQueryAlone rest target.path target.query)
 
 -- a path and a query that are asked of this host (RFC 9112, section 3.2.1)
 abbrev pub IsOfHost : List ℕ → Option (List ℕ) → Bool → Target → Type 0
 IsOfHost text None secure target = ⊥
 IsOfHost text (Some host) secure target =
-    (endpoint : Endpoint) × IsEndpoint host endpoint × IsAt endpoint secure target × IsPathAndQuery text target.path target.query
+    (endpoint : Endpoint) × IsEndpoint host endpoint × IsAt endpoint secure target
+    × IsPathAndQuery text target.path target.query
 
 -- the text is this target, where it is asked of this host by a connection that is secure or not
 abbrev pub IsTarget : List ℕ → Option (List ℕ) → Bool → Target → Type 0
-IsTarget text host secure target = (length text ≤ TARGET_MAX) × (IsAbsolute text target ⊎ IsOfHost text host secure target)
+IsTarget text host secure target = (length text ≤ TARGET_MAX)
+    × (IsAbsolute text target ⊎ IsOfHost text host secure target)
 
 -- a reader of endpoints answers the value of the text; or a fault, where the text has none; or finds no memory
 abbrev pub AnswersEndpoint : List ℕ → Result Endpoint EndpointFault → Type 0

@@ -1,4 +1,5 @@
--- Targets: what a URL names (RFC 3986, section 3; RFC 9112, section 3.2), read by computing the value or the first fault.
+-- Targets: what a URL names (RFC 3986, section 3; RFC 9112, section 3.2), read by computing the value or the first
+-- fault.
 use Rattle.std.specs.Prelude.{◌≡◌, ℕ, ◌+◌, ◌-◌, Bool, true, false, List, [], ◌∷◌, ◌++◌, length, take, drop, slice_index, None, Some, Ok, Err, IsOk, codes, decimal, bytes_eq, ◌==◌, ◌&&◌, ◌||◌, nat_lt, if◌then◌else◌}
 use Rattle.std.specs.List.{prefix_len, list_any}
 use Rattle.std.specs.Option.{option_map_or}
@@ -37,7 +38,8 @@ begins_with word text = bytes_eq (str_to_ascii_lowercase (take (length word) tex
 
 -- the scheme with which the text begins, in any case
 unfoldable pub scheme_of : List ℕ → Option Protocol
-scheme_of text = if begins_with (codes "http://") text then Some Http else (if begins_with (codes "https://") text then Some Https else None)
+scheme_of text = if begins_with (codes "http://") text then Some Http
+    else (if begins_with (codes "https://") text then Some Https else None)
 
 -- how many bytes a scheme has, with its `://`
 abbrev pub scheme_length : Protocol → ℕ
@@ -57,9 +59,11 @@ is_before_path byte = if byte == SLASH || byte == QUESTION then false else true
 abbrev pub begins_with_digits : List ℕ → Bool
 begins_with_digits bytes = is_ascii_hexdigit (slice_index bytes 0) && is_ascii_hexdigit (slice_index bytes 1)
 
--- a byte of a path or a query, before the bytes that follow it: `/`, `?` or of a pchar; after `%` two hexadecimal digits
+-- a byte of a path or a query, before the bytes that follow it: `/`, `?` or of a pchar; after `%` two hexadecimal
+-- digits
 abbrev pub is_taken : ℕ → List ℕ → Bool
-is_taken byte bytes = if byte == PERCENT then begins_with_digits bytes else is_plain byte || byte == SLASH || byte == QUESTION
+is_taken byte bytes = if byte == PERCENT then begins_with_digits bytes else is_plain byte || byte == SLASH
+    || byte == QUESTION
 
 -- why this byte is wrong at this place
 abbrev pub wrong_byte : ℕ → ℕ → TargetFault
@@ -88,11 +92,18 @@ port_or_default secure (Some port) = if secure && port == HTTPS_PORT then HTTP_P
 
 -- the target at this endpoint with this path and query
 abbrev pub target_with : Endpoint → Bool → List ℕ → Option (List ℕ) → Target
-target_with endpoint secure path query = record { host = endpoint.host; port = port_or_default secure endpoint.port; path = path_or_root path; query = query }
+target_with endpoint secure path query = record {
+  host = endpoint.host;
+  port = port_or_default secure endpoint.port;
+  path = path_or_root path;
+  query = query;
+}
 
 -- the same of the text of a path and a query, which is cut at its first `?`
 abbrev pub target_at : Endpoint → Bool → List ℕ → Target
-target_at endpoint secure text = option_map_or (λ parts. target_with endpoint secure parts.0 (Some parts.1)) (parts_at QUESTION text) (target_with endpoint secure text None)
+target_at endpoint secure text =
+    option_map_or (λ parts. target_with endpoint secure parts.0 (Some parts.1)) (parts_at QUESTION text)
+    (target_with endpoint secure text None)
 
 -- the fault of an endpoint as one of a target
 abbrev pub bad_host : EndpointFault → TargetFault
@@ -103,7 +114,8 @@ bad_host endpoint_fault.Memory = Memory
 -- the first wrong byte of a path and a query: a path begins with `/`
 abbrev pub first_wrong_of_path : List ℕ → Option TargetFault
 first_wrong_of_path [] = Some (NotOrigin 0)
-first_wrong_of_path (byte ∷ bytes) = if byte == SLASH then first_wrong 0 (byte ∷ bytes) else (if is_taken byte bytes then Some (NotOrigin 0) else Some (wrong_byte byte 0))
+first_wrong_of_path (byte ∷ bytes) = if byte == SLASH then first_wrong 0 (byte ∷ bytes)
+    else (if is_taken byte bytes then Some (NotOrigin 0) else Some (wrong_byte byte 0))
 
 -- the target of an endpoint, or its fault, and of a path and a query, or their first wrong byte
 abbrev pub target_after : Result Endpoint EndpointFault → Bool → Option TargetFault → List ℕ → Result Target TargetFault
@@ -113,11 +125,15 @@ target_after (Ok endpoint) secure (Some fault) text = Err fault
 
 -- the target of a text with a scheme, of which this many bytes stand before the path
 abbrev pub absolute_target_at : Bool → ℕ → ℕ → List ℕ → Result Target TargetFault
-absolute_target_at secure start end text = target_after (endpoint_of (take (end - start) (drop start text))) secure (first_wrong end (drop end text)) (drop end text)
+absolute_target_at secure start end text =
+    target_after (endpoint_of (take (end - start) (drop start text))) secure (first_wrong end (drop end text))
+    (drop end text)
 
 -- a text with a scheme: the endpoint ends before the first `/` or `?`, and a path and a query follow
 unfoldable pub absolute_target : Protocol → List ℕ → Result Target TargetFault
-absolute_target scheme text = absolute_target_at (is_https scheme) (scheme_length scheme) (scheme_length scheme + prefix_len is_before_path (drop (scheme_length scheme) text)) text
+absolute_target scheme text =
+    absolute_target_at (is_https scheme) (scheme_length scheme) (scheme_length scheme + prefix_len is_before_path
+    (drop (scheme_length scheme) text)) text
 
 -- the target by its scheme, if there is one
 abbrev pub target_by : Option Protocol → List ℕ → Option (List ℕ) → Bool → Result Target TargetFault
@@ -125,10 +141,11 @@ target_by (Some scheme) text host secure = absolute_target scheme text
 target_by None text None secure = Err NoHost
 target_by None text (Some host) secure = target_after (endpoint_of host) secure (first_wrong_of_path text) text
 
--- The target that the text writes, or its first fault. A text without a scheme is a path and a query, which is asked of this
--- host; there the port 443 reads as absent where the connection is secure.
+-- The target that the text writes, or its first fault. A text without a scheme is a path and a query, which is asked of
+-- this host; there the port 443 reads as absent where the connection is secure.
 unfoldable pub target_of : List ℕ → Option (List ℕ) → Bool → Result Target TargetFault
-target_of text host secure = if nat_lt TARGET_MAX (length text) then Err (TooLong (length text)) else target_by (scheme_of text) text host secure
+target_of text host secure = if nat_lt TARGET_MAX (length text) then Err (TooLong (length text))
+    else target_by (scheme_of text) text host secure
 
 -- a reader of targets answers this reading; only where that is a target may it find no memory
 abbrev pub Reads : Result Target TargetFault → Result Target TargetFault → Type 0

@@ -85,7 +85,8 @@ pub(crate) struct EndpointParts {
     pub port: Option<u16>,
 }
 
-/// Which part of a text keeps it from being an endpoint, and the length of the longest prefix with which some endpoint begins.
+/// Which part of a text keeps it from being an endpoint, and the length of the longest prefix with which some endpoint
+/// begins.
 #[derive(Clone, Copy)]
 pub(crate) enum WrongPart {
     Host { at: usize },

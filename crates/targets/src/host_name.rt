@@ -16,8 +16,8 @@ use std::marker::Model;
 /// The most bytes of a host.
 pub const HOST_NAME_MAX: usize = 255;
 
-/// A host, in lower case: a name or address of 1 to 255 bytes, or an address in brackets. It is seen as its bytes, of which
-/// there are never more than 255.
+/// A host, in lower case: a name or address of 1 to 255 bytes, or an address in brackets. It is seen as its bytes, of
+/// which there are never more than 255.
 #[derive(Clone, Drop)]
 pub struct HostName(pub Text);
 

@@ -10,7 +10,8 @@ ghost use Rattle.targets.specs.Target.{url_text};
 
 /// A text is one endpoint at most.
 pub fn a_text_has_one_endpoint()
-    ensures { (text : List ℕ) (endpoint other : Endpoint) → IsEndpoint text endpoint → IsEndpoint text other → endpoint ≡ other }
+    ensures { (text : List ℕ) (endpoint other : Endpoint) → IsEndpoint text endpoint → IsEndpoint text other
+        → endpoint ≡ other }
 {}
 
 /// A text is one target at most, where the host and the kind of the connection are given.
@@ -22,6 +23,7 @@ pub fn a_text_has_one_target()
 /// connection; but beside `https` a port of 443 reads as absent.
 pub fn a_url_is_read_again_as_its_target()
     ensures { (text : List ℕ) (host other : Option (List ℕ)) (secure with_secure https : Bool) (target : Target) →
-        IsTarget text host secure target → (https ≡ true → target.port ≢ HTTPS_PORT) → length (url_text https target) ≤ TARGET_MAX →
+        IsTarget text host secure target → (https ≡ true → target.port ≢ HTTPS_PORT)
+        → length (url_text https target) ≤ TARGET_MAX →
         IsTarget (url_text https target) other with_secure target }
 {}

@@ -1,4 +1,5 @@
-//! What a URL names: hosts, endpoints and targets (RFC 3986, section 3; RFC 9112, section 3.2), and the URL of a target.
+//! What a URL names: hosts, endpoints and targets (RFC 3986, section 3; RFC 9112, section 3.2), and the URL of a
+//! target.
 #![tactic(auto)]
 
 pub mod byte;

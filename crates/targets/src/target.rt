@@ -87,9 +87,9 @@ pub const HTTPS_PORT: u16 = 443;
 
 impl Target {
     /// Reads a path with an optional query, which is asked of `host` (RFC 9112, section 3.2.1), or an absolute URL
-    /// of the scheme `http` or `https` (section 3.2.2), whose endpoint stands in place of `host`. The port is 80 where it
-    /// is absent, and where it is 443 and the scheme is `https` or, without a scheme, `secure` is true. An empty path reads
-    /// as `/`; a path and a query are else kept as they were sent, and the host in lower case.
+    /// of the scheme `http` or `https` (section 3.2.2), whose endpoint stands in place of `host`. The port is 80 where
+    /// it is absent, and where it is 443 and the scheme is `https` or, without a scheme, `secure` is true. An empty
+    /// path reads as `/`; a path and a query are else kept as they were sent, and the host in lower case.
     ///
     /// # Errors
     /// The first fault in the order of `TargetFault`. Want of memory comes only where the text is a target.

@@ -6,7 +6,8 @@ use std::thread::Threads;
 use std::time::{Clock, Duration};
 use turn_cell::{Pass, Stands, TurnCell};
 
-/// How many turns were taken, modulo 2^64. Turns are timed here and nothing is claimed of the count: it stands for each history.
+/// How many turns were taken, modulo 2^64. Turns are timed here and nothing is claimed of the count: it stands for each
+/// history.
 #[derive(Drop)]
 pub struct Tally {
     pub count: u64,

@@ -31,11 +31,13 @@ module _ {E : Type 0} where
 
   -- a view of a pass with this number that has no turn, in a cell with so many passes
   abbrev pub IsResting : ℕ → ℕ → View E → Type 0
-  IsResting passes number v = (v.stage ≡ Resting) × (v.passes ≡ passes) × Contains v.numbers number × AllBelow passes v.seen
+  IsResting passes number v = (v.stage ≡ Resting) × (v.passes ≡ passes) × Contains v.numbers number
+      × AllBelow passes v.seen
 
   -- the pass belongs to this table, and has no turn
   abbrev pub SitsAt : TableId → ℕ → Pass E → Type 0
-  SitsAt table passes pass = (pass.badge.table_id ≡ table) × (pass.number < passes) × ((v : View E) × (pass.badge.views ≡ v ∷ []) × IsResting passes pass.number v)
+  SitsAt table passes pass = (pass.badge.table_id ≡ table) × (pass.number < passes) × ((v : View E)
+      × (pass.badge.views ≡ v ∷ []) × IsResting passes pass.number v)
 
 module _ {V E : Type 0} where
   -- how many passes the cell was made with
@@ -69,7 +71,13 @@ module _ {V E : Type 0} where
 
   -- the same turn, with another value
   abbrev pub with_value : Turn V E → V → Turn V E
-  with_value turn value = record { cell = turn.cell; seat = turn.seat; number = turn.number; value = value; guard = turn.guard }
+  with_value turn value = record {
+    cell = turn.cell;
+    seat = turn.seat;
+    number = turn.number;
+    value = value;
+    guard = turn.guard;
+  }
 
   -- the turn is one of its cell, taken by a pass of this cell. `take` gives no others
   pub record IsTaken (turn : Turn V E) : Type 0 where

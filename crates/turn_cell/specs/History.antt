@@ -26,7 +26,8 @@ module _ {E : Type 0} where
 
   -- the same, with this entry at the end
   abbrev pub FollowedByOthersAnd : List ℕ → List (ℕ × E) → ℕ × E → List (ℕ × E) → Type 0
-  FollowedByOthersAnd numbers before entry after = (others : List (ℕ × E)) × (after ≡ (before ++ others) ++ entry ∷ []) × NoneOf numbers others
+  FollowedByOthersAnd numbers before entry after = (others : List (ℕ × E))
+      × (after ≡ (before ++ others) ++ entry ∷ []) × NoneOf numbers others
 
   -- the second history is the first, followed by entries of this number
   abbrev pub FollowedByOwn : ℕ → List (ℕ × E) → List (ℕ × E) → Type 0

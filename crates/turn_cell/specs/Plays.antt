@@ -17,11 +17,13 @@ module _ {V E : Type 0} where
 
   -- what a seat learns as it gets the turn: the whole history, and the slot with a value that stands for it
   abbrev pub Gets : (V → List (ℕ × E) → Type 0) → ℕ → Sat V E → Sat V E → Type 0
-  Gets stands k m m' = (x : V) × (h : List (ℕ × E)) × (m' ≡ (having_seen h (Serving k) m.0, (0, Some x) ∷ m.1)) × FollowedByOthers m.0.numbers m.0.seen h × AllBelow m.0.passes h × stands x h
+  Gets stands k m m' = (x : V) × (h : List (ℕ × E)) × (m' ≡ (having_seen h (Serving k) m.0, (0, Some x) ∷ m.1))
+      × FollowedByOthers m.0.numbers m.0.seen h × AllBelow m.0.passes h × stands x h
 
   -- the seat gets the turn where the number found is its ticket
   abbrev pub looked : (V → List (ℕ × E) → Type 0) → Step (Option V) → Sat V E → ℕ → Sat V E → Type 0
-  looked stands st m found m' = (k : ℕ) → m.0.stage ≡ Waiting k → (found ≡ k % 2 ^ 64 → Gets stands k m m') × (found ≢ k % 2 ^ 64 → m' ≡ m)
+  looked stands st m found m' = (k : ℕ) → m.0.stage ≡ Waiting k → (found ≡ k % 2 ^ 64 → Gets stands k m m')
+      × (found ≢ k % 2 ^ 64 → m' ≡ m)
 
   -- the history is this one, and the turn and the slot are given back
   abbrev pub passed_on : List (ℕ × E) → Step (Option V) → Sat V E → ℕ → Sat V E → Type 0
@@ -30,4 +32,5 @@ module _ {V E : Type 0} where
   -- a seat that was made of two learns what follows what each of them had seen
   abbrev pub learned : Step (Option V) → Sat V E → ℕ → Sat V E → Type 0
   learned st m found m' = (m' ≡ (at_stage Resting m.0, m.1))
-      × ((ms ns : List ℕ) (a b : List (ℕ × E)) → m.0.stage ≡ Joined ms a ns b → FollowedByOthers ms a m.0.seen × FollowedByOthers ns b m.0.seen × AllBelow m.0.passes m.0.seen)
+      × ((ms ns : List ℕ) (a b : List (ℕ × E)) → m.0.stage ≡ Joined ms a ns b → FollowedByOthers ms a m.0.seen
+      × FollowedByOthers ns b m.0.seen × AllBelow m.0.passes m.0.seen)

@@ -29,7 +29,12 @@ module _ {E : Type 0} where
 
   -- one seat of two, which still knows what each of them was
   abbrev pub joined : View E → View E → View E
-  joined v w = record { passes = v.passes; numbers = v.numbers ++ w.numbers; seen = longer v.seen w.seen; stage = Joined v.numbers v.seen w.numbers w.seen }
+  joined v w = record {
+    passes = v.passes;
+    numbers = v.numbers ++ w.numbers;
+    seen = longer v.seen w.seen;
+    stage = Joined v.numbers v.seen w.numbers w.seen;
+  }
 
   -- what is left of a seat that another has taken in
   abbrev pub spent : View E

@@ -67,7 +67,8 @@ impl<V: Stands> TurnCell<V> {
         passes: u32,
     ) -> Result<PassList<V::Entry>, AllocError>
         requires count { passes_of self.now ≡ passes }
-        requires seat { (seat.table_id ≡ self.now.table.shared.table_id) × (seat.id ≡ 0) × (seat.me ≡ (maker passes, [])) }
+        requires seat { (seat.table_id ≡ self.now.table.shared.table_id) × (seat.id ≡ 0)
+            × (seat.me ≡ (maker passes, [])) }
         ensures numbered { IfOk result (λ list. map number_of list ≡ numbers_from 0 passes) }
         ensures cell { IfOk result (λ list. All (λ pass. IsOf self.entry.now pass) list) }
         ensures own { IfOk result (λ list. All (λ pass. numbers_of pass ≡ number_of pass ∷ []) list) }
@@ -84,9 +85,17 @@ impl<V: Stands> TurnCell<V> {
     fn make_pass(&self, seat: &mut Seat<Option<V>, View<V::Entry>>, number: u32) -> Pass<V::Entry>
         requires below { number < passes_of self.now }
         requires seat { (seat.old.table_id ≡ self.now.table.shared.table_id) × (seat.old.id ≡ 0) }
-        requires numbers { seat.old.me ≡ (maker_with (passes_of self.now) (numbers_from number (passes_of self.now - number)), []) }
+        requires numbers { seat.old.me ≡ (
+          maker_with (passes_of self.now) (numbers_from number
+              (passes_of self.now - number)),
+          [],
+        ) }
         ensures seat { (seat.new.table_id ≡ seat.old.table_id) × (seat.new.id ≡ 0) }
-        ensures numbers { seat.new.me ≡ (maker_with (passes_of self.now) (numbers_from (number + 1) (passes_of self.now - (number + 1))), []) }
+        ensures numbers { seat.new.me ≡ (
+          maker_with (passes_of self.now) (numbers_from (number + 1)
+              (passes_of self.now - (number + 1))),
+          [],
+        ) }
         ensures pass { IsOf self.now result }
         ensures number { number_of result ≡ number }
         ensures own { numbers_of result ≡ number ∷ [] }
@@ -156,7 +165,8 @@ impl<V: Stands> TurnCell<V> {
     pub(crate) fn pass_on<J: Told<V::Entry>>(&self, seat: &mut Seat<Option<V>, View<V::Entry>>)
         requires seat { seat.old.table_id ≡ self.now.table.shared.table_id }
         requires turn { (k : ℕ) × (seat.old.me.0.stage ≡ Serving k) }
-        requires own { (number : ℕ) × Contains seat.old.me.0.numbers number × FollowedByOwn number seat.old.me.0.seen J.history }
+        requires own { (number : ℕ) × Contains seat.old.me.0.numbers number
+            × FollowedByOwn number seat.old.me.0.seen J.history }
         requires value { (x : V) × (seat.old.me.1 ≡ (0, Some x) ∷ []) × V.stands x J.history }
         ensures seat { (seat.new.table_id ≡ seat.old.table_id) × (seat.new.id ≡ seat.old.id) }
         ensures seen { seat.new.me ≡ (having_seen J.history Resting seat.old.me.0, []) }
@@ -188,7 +198,8 @@ impl<V: Stands> TurnCell<V> {
         keep.badge = seat.into_badge();
     }
 
-    /// Ends the cell, once all other passes were joined into this one, and gives the value, which stands for all that the pass has seen.
+    /// Ends the cell, once all other passes were joined into this one, and gives the value, which stands for all that
+    /// the pass has seen.
     pub fn close(self, last: Pass<V::Entry>) -> V
         requires pass { IsOf self last }
         requires all { HasAllNumbers self last }

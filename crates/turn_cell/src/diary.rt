@@ -46,7 +46,8 @@ pub fn note<R: Wait>(
     ensures pass { IsOf cell.now pass.new }
     ensures number { number_of pass.new ≡ number_of pass.old }
     ensures numbers { numbers_of pass.new ≡ numbers_of pass.old }
-    ensures noted { OnOk result (FollowedByOthersAnd (numbers_of pass.old) (seen_of pass.old) (number_of pass.old, entry) (seen_of pass.new)) }
+    ensures noted { OnOk result (FollowedByOthersAnd (numbers_of pass.old) (seen_of pass.old)
+        (number_of pass.old, entry) (seen_of pass.new)) }
     ensures not_noted { OnErr result (FollowedByOthers (numbers_of pass.old) (seen_of pass.old) (seen_of pass.new)) }
 {
     let number = pass.number();

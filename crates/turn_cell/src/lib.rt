@@ -2,7 +2,8 @@
 //! The value stands for a list of entries, each with the number of the pass that made it, oldest first: the history.
 //! A pass keeps what it has seen, which is a beginning of that one history and has all entries of its own.
 //!
-//! The rule between any two atomic steps is `Kept` of specs/Rule.antt. Nothing is said of waiting, fairness or progress.
+//! The rule between any two atomic steps is `Kept` of specs/Rule.antt. Nothing is said of waiting, fairness or
+//! progress.
 #![tactic(auto)]
 
 mod cell;

@@ -3,7 +3,8 @@ ghost use Rattle.std.specs.Prelude.{◌≡◌};
 use crate::view::View;
 use atomic_table::Badge;
 
-/// What one thread takes turns with. It has a number, and in the proofs what it has seen and the numbers that belong to it.
+/// What one thread takes turns with. It has a number, and in the proofs what it has seen and the numbers that belong to
+/// it.
 #[derive(Drop)]
 pub struct Pass<E> {
     pub(crate) number: u32,

@@ -147,7 +147,8 @@ fn three_work<R: Threads + Wait + Sync + Clock>(
         },
         move || -> (Pass<u64>, Pass<u64>)
             requires { IsOf cell.now a × IsOf cell.now b }
-            ensures { (IsOf cell.entry.now result.0 × (numbers_of result.0 ≡ numbers_of a)) × (IsOf cell.entry.now result.1 × (numbers_of result.1 ≡ numbers_of b)) }
+            ensures { (IsOf cell.entry.now result.0 × (numbers_of result.0 ≡ numbers_of a))
+                × (IsOf cell.entry.now result.1 × (numbers_of result.1 ≡ numbers_of b)) }
         { two_work(rt, cell, a, b, first, second) },
     )
 }

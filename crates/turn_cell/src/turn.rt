@@ -28,7 +28,10 @@ impl<'c, V: Stands> Turn<'c, V> {
 
     /// The value.
     pub fn value(&mut self) -> &mut V
-        ensures* writes_back { sem 𝓛 (Lends (the_row (record { mir = named 0; lft = [] }) V.row V.Entry.row V.Stands) V.row self.entry result (with_value self.entry.now)) }
+        ensures* writes_back { sem 𝓛 (Lends (the_row (record {
+          mir = named 0;
+          lft = [];
+        }) V.row V.Entry.row V.Stands) V.row self.entry result (with_value self.entry.now)) }
         ensures value { result.now ≡ value_of self.old }
     {
         &mut self.value
@@ -61,8 +64,8 @@ impl<'c, V: Stands> Turn<'c, V> {
         drop(guard);
     }
 
-    /// Gives the turn back to the pass that took it, with one entry of this pass more than was taken. The entry is named
-    /// by its snapshot, which is no copy and costs nothing.
+    /// Gives the turn back to the pass that took it, with one entry of this pass more than was taken. The entry is
+    /// named by its snapshot, which is no copy and costs nothing.
     pub fn give_entry(self, pass: &mut Pass<V::Entry>, entry: Snapshot<V::Entry>)
         requires turn { IsTaken self }
         requires pass { HasTaken pass.old self }

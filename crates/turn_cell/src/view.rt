@@ -1,4 +1,5 @@
-//! What each seat at the table knows, and the rule. A seat is a pass, or the maker, which has the numbers that no pass has yet.
+//! What each seat at the table knows, and the rule. A seat is a pass, or the maker, which has the numbers that no pass
+//! has yet.
 use crate::stands::Stands;
 use atomic_table::TableRule;
 use std::collections::LinkedList;

@@ -1,6 +1,6 @@
 //! Reads URLs and writes dates, so that their instructions can be counted (bench/urls.sh), and prints how many of them
-//! succeeded. Arguments: what is done (0: a target is read, 1: an HTTP date is written), the length of the URL in bytes,
-//! and how often. Without arguments each is done ten times, on URLs of 100, 1,000 and 4,000 bytes.
+//! succeeded. Arguments: what is done (0: a target is read, 1: an HTTP date is written), the length of the URL in
+//! bytes, and how often. Without arguments each is done ten times, on URLs of 100, 1,000 and 4,000 bytes.
 #![tactic(auto)]
 
 use anyhow::bail;

@@ -23,8 +23,8 @@ pub enum Verdict {
 }
 
 /// Judges a delivery by the effective metadata. The rules are asked in this order: an object that is mandatory and not
-/// understood, the location list, the time list, the protocol list, and that no source can be asked. A kind of list that
-/// is not effective forbids nothing.
+/// understood, the location list, the time list, the protocol list, and that no source can be asked. A kind of list
+/// that is not effective forbids nothing.
 ///
 /// # Errors
 /// Want of memory.

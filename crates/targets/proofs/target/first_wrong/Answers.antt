@@ -11,7 +11,7 @@ unfolding first_wrong
 taken_on from at text below taken =
     let next : from + (at + 1) ≡ from + at + 1 = omega arith in
     let rest : take (length text - (at + 1)) (drop (at + 1) text) ≡ drop (suc at) text =
-        take_rest text (at + 1) ∙ ap (λ (n : ℕ). drop n text) (add-one at) in
+    take_rest text (at + 1) ∙ ap (λ (n : ℕ). drop n text) (add-one at) in
     let is : is_taken (get_or text at 0) (drop (suc at) text) ≡ true = ap (is_taken (get_or text at 0)) (sym rest) ∙ taken in
     ap (λ (n : ℕ). first_wrong n (drop (at + 1) text)) next ∙ ap (λ (n : ℕ). first_wrong (from + at + 1) (drop n text)) (add-one at)
     ∙ sym (ap (first_wrong (from + at)) (drop-cons text at 0 below) ∙ cond-true (is_taken (get_or text at 0) (drop (suc at) text)) (first_wrong (from + at + 1) (drop (suc at) text)) _ is)

@@ -1,0 +1,2 @@
+pub mod MemoryGateLemmas
+pub mod PlanLemmas

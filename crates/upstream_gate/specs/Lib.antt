@@ -1,0 +1,4 @@
+pub mod Got
+pub mod MemoryGate
+pub mod Outcome
+pub mod Plan

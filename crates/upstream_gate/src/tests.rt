@@ -1,6 +1,6 @@
 // What no clause says: that asking succeeds where there is memory, with the ask that is made.
 use crate::{Ask, Gate, Got, MemoryGate, Outcome, OutcomeList, fetch_plan};
-use cdni_base::{Body, Endpoint, EndpointList, Target, TypeName};
+use cdni_base::{Body, Endpoint, EndpointList, Target, Text, TypeName};
 use std::alloc::Global;
 use std::test::Fail;
 
@@ -9,6 +9,29 @@ fn got(alloc: Global, status: u16, body: &[u8]) -> Result<Option<Got>, Fail> {
         Some(kind) => Ok(Got::new(status, kind, Body::of(alloc, body)?)),
         None => Err(Fail::from("a short name")),
     }
+}
+
+fn endpoint(alloc: Global, text: &[u8]) -> Result<Endpoint, Fail> {
+    match Endpoint::read(alloc, text) {
+        Ok(endpoint) => Ok(endpoint),
+        Err(_) => Err(Fail::from("an endpoint")),
+    }
+}
+
+fn target(alloc: Global) -> Result<Target, Fail> {
+    match Target::read(alloc, b"http://v.example/a?b=c", None, false) {
+        Ok(target) => Ok(target),
+        Err(_) => Err(Fail::from("a target")),
+    }
+}
+
+fn gate(alloc: Global) -> Result<MemoryGate, Fail> {
+    let mut outcomes = OutcomeList::new(alloc);
+    outcomes.push(Outcome::Refused { status: 500 })?;
+    if let Some(got) = got(alloc, 404, b"none")? {
+        outcomes.push(Outcome::Got(got))?;
+    }
+    Ok(MemoryGate::new(alloc, outcomes)?)
 }
 
 #[test]
@@ -28,26 +51,9 @@ fn statuses_of_contents(rt: HostRuntime) -> Result<(), Fail> {
 }
 
 #[test]
-fn a_plan_is_asked_in_order(rt: HostRuntime) -> Result<(), Fail> {
-    let alloc = rt.alloc();
-    let mut plan = EndpointList::new(alloc);
-    for host in ["a.example", "b.example:8080", "c.example"] {
-        let Ok(endpoint) = Endpoint::read(alloc, host.as_bytes()) else {
-            return Err(Fail::from("an endpoint"));
-        };
-        plan.push(endpoint)?;
-    }
-    let Ok(target) = Target::read(alloc, b"http://v.example/a?b=c", None, false) else {
-        return Err(Fail::from("a target"));
-    };
-    let mut outcomes = OutcomeList::new(alloc);
-    outcomes.push(Outcome::Refused { status: 500 })?;
-    outcomes.push(Outcome::Got(got(alloc, 404, b"none")?.expect(&rt, "a status")))?;
-    outcomes.push(Outcome::Cut { taken: 7 })?;
-    let mut gate = MemoryGate::new(alloc, outcomes)?;
-    let found = match fetch_plan(alloc, &mut gate, &plan, &target) {
-        Outcome::Got(got) => got,
-        _ => return Err(Fail::from("content")),
+fn content_has_its_parts(rt: HostRuntime) -> Result<(), Fail> {
+    let Some(found) = got(rt.alloc(), 404, b"none")? else {
+        return Err(Fail::from("a status"));
     };
     assert_eq!(rt; found.status(), 404);
     assert_eq!(rt; found.body().bytes(), b"none".as_slice());
@@ -55,19 +61,32 @@ fn a_plan_is_asked_in_order(rt: HostRuntime) -> Result<(), Fail> {
     let (kind, body) = found.into_parts();
     assert_eq!(rt; kind.bytes().len(), 10);
     assert_eq!(rt; body.bytes().len(), 4);
-    assert_eq!(rt; gate.faults(), 0);
-    assert!(rt;
-        matches!(
-            &fetch_plan(alloc, &mut gate, &plan, &target),
-            Outcome::Failed
-        )
-    );
+    Ok(())
+}
+
+#[test]
+fn a_plan_is_asked_in_order(rt: HostRuntime) -> Result<(), Fail> {
+    let target = target(rt.alloc())?;
+    let mut gate = gate(rt.alloc())?;
+    let mut plan = EndpointList::new(rt.alloc());
+    plan.push(endpoint(rt.alloc(), b"a.example")?)?;
+    plan.push(endpoint(rt.alloc(), b"b.example:8080")?)?;
+    let found = fetch_plan(rt.alloc(), &mut gate, &plan, &target);
+    assert!(rt; matches!(&found, Outcome::Got(_)));
+    let found = fetch_plan(rt.alloc(), &mut gate, &plan, &target);
+    assert!(rt; matches!(&found, Outcome::Failed));
     assert_eq!(rt; gate.faults(), 2);
+    Ok(())
+}
+
+#[test]
+fn a_gate_without_outcomes_fails(rt: HostRuntime) -> Result<(), Fail> {
+    let mut gate = MemoryGate::new(rt.alloc(), OutcomeList::new(rt.alloc()))?;
     let ask = Ask {
-        endpoint: plan.at(0).clone()?,
-        target: target.path.clone()?,
+        endpoint: endpoint(rt.alloc(), b"a.example")?,
+        target: Text::of(rt.alloc(), b"/")?,
     };
-    assert!(rt; matches!(&gate.fetch(alloc, &ask), Outcome::Failed));
-    assert_eq!(rt; gate.faults(), 3);
+    assert!(rt; matches!(&gate.fetch(rt.alloc(), &ask), Outcome::Failed));
+    assert_eq!(rt; gate.faults(), 1);
     Ok(())
 }

@@ -1,42 +1,43 @@
 // What no clause says: that the calls succeed.
 use crate::{Object, ObjectTable};
-use cdni_base::{Body, Ignored, Target, Text, TypeName, url_key};
+use cdni_base::{Body, Ignored, Key, Target, TypeName, url_key};
 use std::alloc::Global;
 use std::test::Fail;
 
-fn object_of(alloc: Global, url: &[u8], fetch: u64, bytes: &[u8]) -> Result<Object, Fail> {
-    let Ok(target) = Target::read(alloc, url, None, false) else {
-        return Err(Fail::from("no target"));
-    };
-    let Some(kind) = TypeName::of(alloc, b"text/plain")? else {
-        return Err(Fail::from("no name"));
-    };
-    Ok(Object {
-        key: url_key(alloc, &target, &Ignored::None)?,
-        fetch,
-        ccid: Some(Text::of(alloc, b"a")?),
-        kind,
-        body: Body::of(alloc, bytes)?,
-    })
+fn key_of(alloc: Global) -> Result<Key, Fail> {
+    match Target::read(alloc, b"http://v.example/a", None, false) {
+        Ok(target) => Ok(url_key(alloc, &target, &Ignored::None)?),
+        Err(_) => Err(Fail::from("no target")),
+    }
+}
+
+fn object_of(alloc: Global) -> Result<Object, Fail> {
+    match TypeName::of(alloc, b"text/plain")? {
+        Some(kind) => Ok(Object {
+            key: key_of(alloc)?,
+            fetch: 1,
+            ccid: None,
+            kind,
+            body: Body::of(alloc, b"abc")?,
+        }),
+        None => Err(Fail::from("no name")),
+    }
 }
 
 #[test]
-fn the_first_leave_where_there_are_too_many_bytes(rt: HostRuntime) -> Result<(), Fail> {
+fn a_kept_object_is_found(rt: HostRuntime) -> Result<(), Fail> {
     let mut table = ObjectTable::new(rt.alloc(), 6)?;
+    let key = key_of(rt.alloc())?;
     table.reserve_fill(rt.alloc())?;
-    assert!(rt; table.fill_reserved(object_of(rt.alloc(), b"http://v.example/a", 1, b"abc")?));
-    table.reserve_fill(rt.alloc())?;
-    assert!(rt; table.fill_reserved(object_of(rt.alloc(), b"http://v.example/b", 2, b"def")?));
-    let first = object_of(rt.alloc(), b"http://v.example/a", 3, b"")?;
-    let second = object_of(rt.alloc(), b"http://v.example/b", 3, b"gh")?;
-    table.touch(&first.key);
-    table.reserve_fill(rt.alloc())?;
-    assert!(rt; table.fill_reserved(object_of(rt.alloc(), b"http://v.example/c", 3, b"g")?));
-    assert!(rt; table.find(&second.key).is_none());
-    let Some(found) = table.find(&first.key) else {
-        return Err(Fail::from("no object"));
-    };
-    assert_eq!(rt; found.fetch, 1);
+    assert!(rt; table.fill_reserved(object_of(rt.alloc())?));
+    table.touch(&key);
+    assert!(rt; table.find(&key).is_some());
+    Ok(())
+}
+
+#[test]
+fn a_reserved_place_is_given_back(rt: HostRuntime) -> Result<(), Fail> {
+    let mut table = ObjectTable::new(rt.alloc(), 6)?;
     table.reserve_fill(rt.alloc())?;
     table.give_back();
     Ok(())

@@ -1,6 +1,14 @@
 //! Log files of the requests that were served (RFC 7937, section 3).
 #![tactic(auto)]
 
+mod date;
+mod file;
+pub mod laws;
+mod line;
+mod record;
 mod row;
+#[cfg(test)]
+mod tests;
 
+pub use file::file_text;
 pub use row::{FileHead, Row, RowList};

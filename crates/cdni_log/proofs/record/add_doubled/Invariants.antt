@@ -1,0 +1,7 @@
+use Rattle.std.proofs.Common.{◌≡◌, ◌++◌, take}
+use Rattle.std.specs.List.{flat_map}
+use Rattle.cdni_log.specs.Row.{doubled}
+use Rattle.cdni_log.proofs.record.add_doubled.Given as goal
+
+abbrev pub invariant-bytes : goal.invariant-bytes
+invariant-bytes l = l.out.items ≡ l.initial.out.items ++ flat_map doubled (take l.byte-index l.bytes)

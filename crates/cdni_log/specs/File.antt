@@ -1,0 +1,48 @@
+-- Log files (RFC 7937, section 3).
+use Rattle.std.specs.Prelude.{ℕ, List, [], ◌∷◌, ◌++◌, codes, decimal, take}
+use Rattle.std.specs.List.{flat_map}
+use Rattle.hex.specs.Hex.{encode_lower}
+use Rattle.sha1.specs.Sha1.{sha1}
+use Rattle.sha2.specs.Sha256.{sha256}
+use Rattle.uuid.specs.Parts.{with_variant, with_version}
+use Rattle.uuid.specs.Text.{lower, urn_text}
+use Rattle.uuid.specs.Uuid.{namespace_url}
+use Rattle.uuid.specs.declared.Variant.TheVariants.{RFC4122}
+use Rattle.uuid.specs.declared.Version.TheVariants.{Sha1}
+use Rattle.cdni_log.specs.declared.row.FileHead.{FileHead}
+use Rattle.cdni_log.specs.declared.row.Row.{Row}
+use Rattle.cdni_log.specs.Line.{directive, quoted, tabbed}
+use Rattle.cdni_log.specs.Row.{record_text}
+
+-- what tells a file from all others: the CDN that logged, the number of the file, and the moment of the cut
+abbrev pub file_name : FileHead → List ℕ
+file_name head = head.origin ++ codes "/" ++ decimal head.number ++ codes "/" ++ decimal head.moment
+
+-- the UUID of a file (RFC 9562, section 5.5): version 5, of the file's name in the namespace of URLs
+unfoldable pub file_uuid : FileHead → List ℕ
+file_uuid head = with_version (with_variant (take 16 (sha1 (namespace_url ++ file_name head))) RFC4122) Sha1
+
+-- the fields of a record (RFC 7937, section 3.4.1), in their order
+abbrev pub field_names : List (List ℕ)
+field_names = codes "date" ∷ codes "time" ∷ codes "time-taken" ∷ codes "c-groupid" ∷ codes "cs-method"
+    ∷ codes "cs-uri" ∷ codes "u-uri" ∷ codes "protocol" ∷ codes "sc-status" ∷ codes "sc-total-bytes"
+    ∷ codes "sc-entity-bytes" ∷ codes "s-ccid" ∷ codes "s-cached" ∷ []
+
+-- which file this is, in three directives (RFC 7937, section 3.3)
+unfoldable pub identity_text : FileHead → List ℕ
+identity_text head = directive (codes "version") (codes "cdni/1.0")
+    ++ directive (codes "UUID") (quoted (urn_text lower (file_uuid head)))
+    ++ directive (codes "claimed-origin") head.origin
+
+-- of what kind its records are, in two directives (RFC 7937, section 3.3)
+unfoldable pub form_text : List ℕ
+form_text = directive (codes "record-type") (codes "cdni_http_request_v1")
+    ++ directive (codes "fields") (tabbed field_names)
+
+-- a text, and behind it the directive with its SHA-256 in hexadecimal digits
+unfoldable pub with_hash : List ℕ → List ℕ
+with_hash text = text ++ directive (codes "SHA256-hash") (encode_lower (sha256 text))
+
+-- the file: its directives, one line for each row, in order, and the hash of all that
+unfoldable pub file_text : FileHead → List Row → List ℕ
+file_text head rows = with_hash (identity_text head ++ form_text ++ flat_map record_text rows)

@@ -1,2 +1,5 @@
+pub mod Draft
+pub mod Reading
 pub mod Selection
 pub mod Spec
+pub mod TriggerUrl

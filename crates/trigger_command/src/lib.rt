@@ -3,9 +3,14 @@
 #![tactic(auto)]
 
 mod command;
+mod draft;
+mod fault;
+mod reading;
 mod selection;
 mod spec;
+mod trigger_url;
 
 pub use command::{Act, Command, IdList, ProviderIdList};
+pub use fault::CommandFault;
 pub use selection::{PatternItem, PatternItemList, Selection, UrlItem, UrlItemList};
 pub use spec::{SELECTION_MAX, Spec, TriggerKind};

@@ -1,0 +1,10 @@
+use Rattle.std.proofs.Common.{◌≡◌, drop, map}
+use Rattle.json_read.specs.Path.{item_of}
+use Rattle.serde_json.specs.View.{view}
+use Rattle.json_read.specs.Field.{text_of}
+use Rattle.trigger_command.specs.Draft.{each_from, each_of}
+use Rattle.trigger_command.proofs.Loops.{with_front}
+use Rattle.trigger_command.proofs.draft.texts_of.Given as goal
+
+abbrev pub invariant-items : goal.invariant-items
+invariant-items l = with_front l.list (each_from (λ n value. text_of (item_of l.path n) value) l.i (drop l.i (map view l.items))) ≡ each_of text_of l.path (map view l.items)

@@ -122,3 +122,7 @@ pub then_fails : {A B : Type 0} (fault : JsonFault) (one : Result A FieldFault) 
     → field.Fails fault one → field.Fails fault (one >>= next)
 then_fails (json_fault.Field wrong) one next is = rw is refl
 then_fails json_fault.Memory one next is = tt
+
+pub judged_then_fails : {A B : Type 0} (fault : CommandFault) (one : Result A CommandFault) (next : A → Result B CommandFault)
+    → judged.Fails fault one → judged.Fails fault (one >>= next)
+judged_then_fails fault one next = fails_on fault one (one >>= next) (λ wrong is. rw is refl)

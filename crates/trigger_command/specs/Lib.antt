@@ -1,4 +1,5 @@
 pub mod Draft
+pub mod Fault
 pub mod Reading
 pub mod Selection
 pub mod Spec

@@ -247,10 +247,17 @@ fn numbers_of(alloc: Global, texts: &[Text], control: &HostName) -> Result<IdLis
 {
     let mut list = Listing::new(alloc);
     'texts: for i in 0..texts.len() {
-        let Some(number) = trigger_number(texts[i].bytes(), control) else {
-            return Err(CommandFault::BadUrl { index: i });
-        };
+        let number = number_of(&texts[i], control, i)?;
         list.push(number)?;
     }
     Ok(list)
+}
+
+fn number_of(text: &Text, control: &HostName, index: usize) -> Result<u64, CommandFault>
+    ensures { Gives (λ number. number) result (number_at control.now index text.now) }
+{
+    match trigger_number(text.bytes(), control) {
+        Some(number) => Ok(number),
+        None => Err(CommandFault::BadUrl { index }),
+    }
 }

@@ -139,11 +139,7 @@ fn kind_of(alloc: Global, value: &Value, path: &JsonPath) -> Result<TriggerKind,
     let word = text_of(alloc, value, path, "type")?;
     match kind_named(&word) {
         Some(kind) => Ok(kind),
-        None => Err(fault_at(
-            alloc,
-            &path.child(alloc, "type")?,
-            FieldCause::OutOfRange,
-        )),
+        None => Err(fault_at(alloc, &path.child(alloc, "type")?, FieldCause::OutOfRange)),
     }
 }
 
@@ -243,11 +239,7 @@ fn providers_of(
 
 // the list of patterns at `path`
 #[tactic(auto, using(crate::proofs::Loops::values_of_items), unfolding(crate::specs::Draft::list_of))]
-fn patterns_at(
-    alloc: Global,
-    value: &Value,
-    path: &JsonPath,
-) -> Result<PatternDraftList, JsonFault>
+fn patterns_at(alloc: Global, value: &Value, path: &JsonPath) -> Result<PatternDraftList, JsonFault>
     ensures { Gives (λ patterns. patterns) result (list_of pattern_at path.now (view value.now)) }
 {
     let items = list_at(alloc, value, path)?;

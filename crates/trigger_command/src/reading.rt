@@ -2,7 +2,6 @@
 
 ghost use Rattle.std.specs.Prelude.{◌≡◌, ◌+◌, ◌<◌, ◌≤◌, length, min, nat_lt, IfOk, IsNone};
 ghost use Rattle.std.specs.List.{list_any};
-
 ghost use Rattle.serde_json.specs.View.{view};
 ghost use Rattle.trigger_command.specs.Draft.{each_from};
 ghost use Rattle.trigger_command.specs.Reading.{url_at, pattern_item_at, is_preposition, pattern_count, draft_count, wrong_lists, selection_of, spec_of, number_at, act_of, has_own, command_of_written, command_of_value, command_of, Gives};
@@ -13,8 +12,8 @@ use crate::command::{Act, Command, IdList};
 use crate::draft::{Draft, Form, PatternDraft, Written, read_written};
 use crate::fault::CommandFault;
 use crate::selection::{PatternItem, PatternItemList, Selection, UrlItem, UrlItemList};
-use crate::trigger_url::trigger_number;
 use crate::spec::{SELECTION_MAX, Spec, TriggerKind};
+use crate::trigger_url::trigger_number;
 use cdni_base::ProviderId;
 use json_read::{ParseFault, Value, parse};
 use listing::{Listing, Text};

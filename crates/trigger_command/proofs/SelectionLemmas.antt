@@ -1,12 +1,12 @@
 -- The tests of what a selection hits decide whether it hits.
 use Rattle.std.proofs.Common.{◌≡◌, Bool, true, false, List, [], ◌∷◌, ap, refl}
-use Rattle.std.specs.Prelude.{Option, None, Some, ℕ, bytes_eq}
+use Rattle.std.specs.Prelude.{Option, None, Some, ℕ}
 use Rattle.std.specs.Bool.{Decides, one_answer}
 use Rattle.std.specs.List.{Any, list_any}
 use Rattle.std.specs.Cmp.Lexicographic.{bytes_decides}
 use Rattle.std.proofs.lemmas.Bool.Decides.{Decides-or}
 use Rattle.std.proofs.lemmas.List.Folds.{Any-from_list_any, list_any-from_Any}
-use Rattle.cdni_base.specs.Key.{KeyParts, key_of, key_text, same_key}
+use Rattle.cdni_base.specs.Key.{KeyParts, key_of, key_text}
 use Rattle.cdni_base.specs.KeyEqualityLemmas.{key_decides}
 use Rattle.pattern_match.specs.Units.{units}
 use Rattle.pattern_match.specs.Matching.{Compiled, Matches, is_match}

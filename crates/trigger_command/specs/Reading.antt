@@ -1,5 +1,5 @@
 -- Reading a trigger command: the value, or the first fault (RFC 8007, sections 4.1, 4.6 and 5).
-use Rattle.std.specs.Prelude.{◌≡◌, ℕ, ◌+◌, ◌-◌, ◌^◌, Bool, true, false, List, [], ◌∷◌, ◌++◌, codes, decimal, bytes_eq, length, min, nat_lt, ◌&&◌, ◌||◌, ◌==◌, take, drop, None, Some, Ok, Err, if◌then◌else◌}
+use Rattle.std.specs.Prelude.{◌≡◌, ℕ, ◌+◌, ◌-◌, ◌^◌, Bool, true, false, List, bytes_eq, length, min, nat_lt, ◌&&◌, ◌==◌, None, Some, Ok, Err, if◌then◌else◌}
 use Rattle.std.specs.List.{list_any}
 use Rattle.std.specs.Option.{option_map_or}
 use Rattle.std.specs.Result.{result_ok}

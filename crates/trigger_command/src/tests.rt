@@ -1,6 +1,6 @@
 //! Commands that are read and refused, and keys that are hit.
 
-use crate::{Act, Command, TriggerKind};
+use crate::{Act, Command, CommandFault, IdList, Spec, TriggerKind};
 use cdni_base::{Endpoint, HostName, Ignored, Key, ProviderId, Target, Text, url_key};
 use std::alloc::Global;
 use std::test::Fail;
@@ -94,7 +94,7 @@ fn refusal(alloc: Global, text: &[u8]) -> Result<Vec<u8>, Fail> {
     match Command::read(alloc, text, &own_id(alloc)?, &control_host(alloc)?) {
         Ok(_) => Ok(Vec::new(alloc)),
         Err(fault) => {
-            if matches!(&fault, crate::CommandFault::Memory) {
+            if matches!(&fault, CommandFault::Memory) {
                 return Ok(Vec::new(alloc));
             }
             Ok(Vec::from_slice(alloc, fault.text(alloc)?.bytes())?)
@@ -141,21 +141,29 @@ fn key_of(alloc: Global, url: &[u8], ignored: &Ignored) -> Result<Key, Fail> {
     Ok(url_key(alloc, &Target::read(alloc, url, None, false)?, ignored)?)
 }
 
+fn spec_of(command: &Command) -> Option<&Spec> {
+    match &command.act {
+        Act::Trigger(spec) => Some(spec),
+        Act::Cancel(_) => None,
+    }
+}
+
+fn ids_of(command: &Command) -> Option<&IdList> {
+    match &command.act {
+        Act::Trigger(_) => None,
+        Act::Cancel(ids) => Some(ids),
+    }
+}
+
 #[test]
 fn a_command_hits_its_keys(rt: HostRuntime) -> Result<(), Fail> {
     let alloc = rt.alloc();
     let text =
         br#"{"trigger":{"metadata.urls":["http://m.example/i"],"content.urls":["https://V.example/a?x"],"content.ccid":["c"],"metadata.patterns":[{"pattern":"http*/j"}],"content.patterns":[{"pattern":"https://v.example/b/?*","case-sensitive":true,"match-query-string":true},{"pattern":"*/c"}],"type":"invalidate"},"cdn-path":["AS1:a"]}"#;
-    let read = Command::read(alloc, text, &own_id(alloc)?, &control_host(alloc)?);
-    assert!(rt; read.is_ok());
-    let Ok(command) = read else {
-        return Ok(());
-    };
+    let command = Command::read(alloc, text, &own_id(alloc)?, &control_host(alloc)?);
+    let command = command.ok().ok_or("refused")?;
     assert_eq!(rt; command.path.len(), 1);
-    let Act::Trigger(spec) = command.act else {
-        assert!(rt; false);
-        return Ok(());
-    };
+    let spec = spec_of(&command).ok_or("no trigger")?;
     assert!(rt; spec.kind == TriggerKind::Invalidate);
     let selection = &spec.selection;
     assert_eq!(rt; selection.item_count(), 6);
@@ -181,14 +189,9 @@ fn a_command_hits_its_keys(rt: HostRuntime) -> Result<(), Fail> {
 
     let text =
         br#"{"cancel":["http://control.example/triggers/7","https://control.example/triggers/18446744073709551615"],"cdn-path":[]}"#;
-    match Command::read(alloc, text, &own_id(alloc)?, &control_host(alloc)?) {
-        Ok(command) => match command.act {
-            Act::Cancel(ids) => {
-                assert!(rt; ids.as_slice() == [7, 18446744073709551615].as_slice());
-            }
-            Act::Trigger(_) => assert!(rt; false),
-        },
-        Err(_) => assert!(rt; false),
-    }
+    let command = Command::read(alloc, text, &own_id(alloc)?, &control_host(alloc)?);
+    let command = command.ok().ok_or("refused")?;
+    let ids = ids_of(&command).ok_or("no cancel")?;
+    assert!(rt; ids.as_slice() == [7, 18446744073709551615].as_slice());
     Ok(())
 }

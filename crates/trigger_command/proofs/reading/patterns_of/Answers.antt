@@ -2,7 +2,7 @@ use Rattle.std.proofs.Common.{◌≡◌, ◌+◌, [], ◌∷◌, refl, arith, le
 use Rattle.std.proofs.lemmas.Result.{err_from_is_err_and}
 use Rattle.trigger_command.specs.Draft.{each_from}
 use Rattle.trigger_command.specs.Reading.{pattern_item_at}
-use Rattle.trigger_command.proofs.Loops.{front_none, fails_on, goes_on, ends, is_done, numbered_first}
+use Rattle.trigger_command.proofs.Loops.{fails_on, goes_on, ends, is_done, numbered_first}
 use Rattle.trigger_command.proofs.reading.patterns_of.Goals as goal
 
 pub drafts-init : goal.drafts-init

@@ -1,0 +1,7 @@
+use Rattle.std.proofs.Common.{rules}
+use Rattle.trigger_status.specs.Items.{pattern_data}
+use Rattle.trigger_status.proofs.ItemLemmas.{list_added}
+use Rattle.trigger_status.proofs.items.add_pattern_list.Goals as goal
+
+pub returns : goal.returns
+returns c = list_added pattern_data c.args.patterns.now _ _ _ c.args.name.now c.args.later (search rules) c.in_ok-add_name.ensures c.in_ok-add_patterns.ensures

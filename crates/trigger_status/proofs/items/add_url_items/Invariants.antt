@@ -1,0 +1,8 @@
+use Rattle.std.proofs.Common.{◌≡◌, ◌++◌, false, drop}
+use Rattle.serde_json.specs.Written.{items_text}
+use Rattle.trigger_status.specs.Items.{each_as, url_data}
+use Rattle.trigger_status.proofs.items.add_url_items.Given as goal
+
+abbrev pub invariant-items : goal.invariant-items
+invariant-items l =
+    l.out.items ++ items_text l.later (each_as url_data (drop l.i l.urls)) ≡ l.initial.out.items ++ items_text false (each_as url_data l.urls)

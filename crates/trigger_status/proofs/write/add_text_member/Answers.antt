@@ -1,0 +1,6 @@
+use Rattle.serde_json.specs.Data.{string}
+use Rattle.trigger_status.proofs.ItemLemmas.{one_added}
+use Rattle.trigger_status.proofs.write.add_text_member.Goals as goal
+
+pub returns : goal.returns
+returns c = one_added _ _ _ c.args.name.now c.args.later (string c.args.text.now) c.in_ok-add_name.ensures c.in_ok-add_quoted.ensures

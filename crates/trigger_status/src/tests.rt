@@ -46,47 +46,58 @@ fn job_of(alloc: Global, text: &[u8], emeta: bool, places: &[u32]) -> Result<Job
     })
 }
 
-#[test]
-fn resources_are_written(rt: HostRuntime) -> Result<(), Fail> {
-    let alloc = rt.alloc();
-    let text =
-        br#"{"cdn-path":["AS64500:0"],"trigger":{"content.urls":["http://v.example/a"],"type":"invalidate"}}"#;
-    let job = job_of(alloc, text, false, &[])?;
-    let resource = job_json(alloc, &job)?;
-    assert!(rt;
-        resource.is(
-            br#"{"ctime":2,"mtime":12,"status":"complete","trigger":{"content.urls":["http://v.example/a"],"type":"invalidate"}}"#
-        )
-    );
+// whether the resource of this command's trigger is this text
+fn is_resource(
+    alloc: Global,
+    text: &[u8],
+    emeta: bool,
+    places: &[u32],
+    expected: &[u8],
+) -> Result<bool, Fail> {
+    let job = job_of(alloc, text, emeta, places)?;
+    Ok(job_json(alloc, &job)?.is(expected))
+}
 
-    let text =
-        br#"{"cdn-path":[],"trigger":{"type":"purge","metadata.urls":["http://m/"],"content.urls":["http://v/a","HTTP://v/b"],"content.ccid":["a\"\\\u0001\n","c"],"metadata.patterns":[{"pattern":"*","case-sensitive":true}],"content.patterns":[{"pattern":"x","match-query-string":true}]}}"#;
-    let job = job_of(alloc, text, true, &[1, 0])?;
-    let resource = job_json(alloc, &job)?;
-    assert!(rt;
-        resource.is(
-            br#"{"ctime":2,"errors":[{"error":"emeta","metadata.urls":["http://m/"]},{"content.urls":["HTTP://v/b","http://v/a"],"error":"econtent"}],"mtime":12,"status":"failed","trigger":{"content.ccid":["a\"\\\u0001\n","c"],"content.patterns":[{"case-sensitive":false,"match-query-string":true,"pattern":"x"}],"content.urls":["http://v/a","HTTP://v/b"],"metadata.patterns":[{"case-sensitive":true,"match-query-string":false,"pattern":"*"}],"metadata.urls":["http://m/"],"type":"purge"}}"#
-        )
-    );
-    Ok(())
+// whether the collection of these triggers is this text
+fn is_collection(
+    alloc: Global,
+    numbers: &[u64],
+    filter: Filter,
+    expected: &[u8],
+) -> Result<bool, Fail> {
+    let mut ids: IdList = Listing::new(alloc);
+    for number in numbers {
+        ids.push(*number)?;
+    }
+    let text = collection_json(alloc, &ids, filter, &own_id(alloc)?, &control_host(alloc)?)?;
+    Ok(text.is(expected))
 }
 
 #[test]
-fn collections_are_written(rt: HostRuntime) -> Result<(), Fail> {
+fn texts_are_written(rt: HostRuntime) -> Result<(), Fail> {
     let alloc = rt.alloc();
-    let (own, control) = (own_id(alloc)?, control_host(alloc)?);
-    let mut ids: IdList = Listing::new(alloc);
-    let text = collection_json(alloc, &ids, Filter::Failed, &own, &control)?;
-    assert!(rt; text.is(br#"{"triggers":[]}"#));
-    ids.push(2)?;
-    let text = collection_json(alloc, &ids, Filter::Active, &own, &control)?;
-    assert!(rt; text.is(br#"{"triggers":["http://control.example/triggers/2"]}"#));
-    ids.push(18446744073709551615)?;
-    let text = collection_json(alloc, &ids, Filter::All, &own, &control)?;
+    let text =
+        br#"{"cdn-path":["AS64500:0"],"trigger":{"content.urls":["http://v.example/a"],"type":"invalidate"}}"#;
+    let expected =
+        br#"{"ctime":2,"mtime":12,"status":"complete","trigger":{"content.urls":["http://v.example/a"],"type":"invalidate"}}"#;
+    assert!(rt; is_resource(alloc, text, false, &[], expected)?);
+    let text =
+        br#"{"cdn-path":[],"trigger":{"type":"purge","metadata.urls":["http://m/"],"content.urls":["http://v/a","HTTP://v/b"],"content.ccid":["a\"\\\u0001\n","c"],"metadata.patterns":[{"pattern":"*","case-sensitive":true}],"content.patterns":[{"pattern":"x","match-query-string":true}]}}"#;
+    let expected =
+        br#"{"ctime":2,"errors":[{"error":"emeta","metadata.urls":["http://m/"]},{"content.urls":["HTTP://v/b","http://v/a"],"error":"econtent"}],"mtime":12,"status":"failed","trigger":{"content.ccid":["a\"\\\u0001\n","c"],"content.patterns":[{"case-sensitive":false,"match-query-string":true,"pattern":"x"}],"content.urls":["http://v/a","HTTP://v/b"],"metadata.patterns":[{"case-sensitive":true,"match-query-string":false,"pattern":"*"}],"metadata.urls":["http://m/"],"type":"purge"}}"#;
+    assert!(rt; is_resource(alloc, text, true, &[1, 0], expected)?);
+
+    assert!(rt; is_collection(alloc, &[], Filter::Failed, br#"{"triggers":[]}"#)?);
     assert!(rt;
-        text.is(
-            br#"{"cdn-id":"AS64496:0","coll-active":"http://control.example/triggers/active","coll-all":"http://control.example/triggers","coll-complete":"http://control.example/triggers/complete","coll-failed":"http://control.example/triggers/failed","coll-pending":"http://control.example/triggers/pending","triggers":["http://control.example/triggers/2","http://control.example/triggers/18446744073709551615"]}"#
-        )
+        is_collection(
+            alloc,
+            &[2],
+            Filter::Active,
+            br#"{"triggers":["http://control.example/triggers/2"]}"#
+        )?
     );
+    let expected =
+        br#"{"cdn-id":"AS64496:0","coll-active":"http://control.example/triggers/active","coll-all":"http://control.example/triggers","coll-complete":"http://control.example/triggers/complete","coll-failed":"http://control.example/triggers/failed","coll-pending":"http://control.example/triggers/pending","triggers":["http://control.example/triggers/2","http://control.example/triggers/18446744073709551615"]}"#;
+    assert!(rt; is_collection(alloc, &[2, 18446744073709551615], Filter::All, expected)?);
     Ok(())
 }

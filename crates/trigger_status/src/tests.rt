@@ -3,7 +3,7 @@
 use crate::{Filter, IndexList, Job, JobStatus, collection_json, job_json};
 use cdni_base::{Endpoint, HostName, ProviderId};
 use listing::Listing;
-use std::alloc::Global;
+use std::alloc::{AllocError, Global};
 use std::test::Fail;
 use trigger_command::{Act, Command, IdList, Spec};
 
@@ -15,6 +15,16 @@ fn control_host(alloc: Global) -> Result<HostName, Fail> {
     Ok(Endpoint::read(alloc, b"control.example")?.host)
 }
 
+fn command_of(
+    alloc: Global,
+    text: &[u8],
+    own: &ProviderId,
+    control: &HostName,
+) -> Result<Command, Fail> {
+    let command = Command::read(alloc, text, own, control).ok();
+    Ok(command.ok_or("refused")?)
+}
+
 fn spec_of(command: &Command) -> Option<&Spec> {
     match &command.act {
         Act::Trigger(spec) => Some(spec),
@@ -22,82 +32,138 @@ fn spec_of(command: &Command) -> Option<&Spec> {
     }
 }
 
-// the trigger of a command's text
-fn job_of(alloc: Global, text: &[u8], emeta: bool, places: &[u32]) -> Result<Job, Fail> {
-    let command = Command::read(alloc, text, &own_id(alloc)?, &control_host(alloc)?);
-    let command = command.ok().ok_or("refused")?;
-    let spec = spec_of(&command).ok_or("no trigger")?.clone()?;
-    let mut econtent: IndexList = Listing::new(alloc);
-    for place in places {
-        econtent.push(*place)?;
-    }
-    Ok(Job {
-        id: 1,
-        spec,
-        status: if emeta {
-            JobStatus::Failed
-        } else {
-            JobStatus::Complete
-        },
-        ctime: 2001,
-        mtime: 12999,
-        emeta,
-        econtent,
-    })
+fn spec_in(command: &Command) -> Result<Spec, Fail> {
+    Ok(spec_of(command).ok_or("no trigger")?.clone()?)
 }
 
-// whether the resource of this command's trigger is this text
-fn is_resource(
+// the trigger of a command's text, read by this CDN
+fn spec_by(alloc: Global, text: &[u8], own: &ProviderId, control: &HostName) -> Result<Spec, Fail> {
+    let command = command_of(alloc, text, own, control)?;
+    spec_in(&command)
+}
+
+// the trigger of a command's text
+fn read_spec(alloc: Global, text: &[u8]) -> Result<Spec, Fail> {
+    let own = own_id(alloc)?;
+    let control = control_host(alloc)?;
+    spec_by(alloc, text, &own, &control)
+}
+
+fn index_list(alloc: Global, places: &[u32]) -> Result<IndexList, AllocError> {
+    let mut list: IndexList = Listing::new(alloc);
+    for place in places {
+        list.push(*place)?;
+    }
+    Ok(list)
+}
+
+fn id_list(alloc: Global, numbers: &[u64]) -> Result<IdList, AllocError> {
+    let mut list: IdList = Listing::new(alloc);
+    for number in numbers {
+        list.push(*number)?;
+    }
+    Ok(list)
+}
+
+// whether the resource of a trigger that failed, or was done, is this text
+fn is_job(
     alloc: Global,
-    text: &[u8],
-    emeta: bool,
-    places: &[u32],
+    spec: Spec,
+    failed: bool,
+    econtent: IndexList,
     expected: &[u8],
-) -> Result<bool, Fail> {
-    let job = job_of(alloc, text, emeta, places)?;
+) -> Result<bool, AllocError> {
+    let status = if failed {
+        JobStatus::Failed
+    } else {
+        JobStatus::Complete
+    };
+    let job = Job {
+        id: 1,
+        spec,
+        status,
+        ctime: 2001,
+        mtime: 12999,
+        emeta: failed,
+        econtent,
+    };
     Ok(job_json(alloc, &job)?.is(expected))
 }
 
-// whether the collection of these triggers is this text
-fn is_collection(
+// the same, of a command's trigger
+fn is_resource(
     alloc: Global,
-    numbers: &[u64],
-    filter: Filter,
+    text: &[u8],
+    failed: bool,
+    places: &[u32],
     expected: &[u8],
 ) -> Result<bool, Fail> {
-    let mut ids: IdList = Listing::new(alloc);
-    for number in numbers {
-        ids.push(*number)?;
-    }
-    let text = collection_json(alloc, &ids, filter, &own_id(alloc)?, &control_host(alloc)?)?;
-    Ok(text.is(expected))
+    let spec = read_spec(alloc, text)?;
+    let econtent = index_list(alloc, places)?;
+    Ok(is_job(alloc, spec, failed, econtent, expected)?)
 }
 
 #[test]
-fn texts_are_written(rt: HostRuntime) -> Result<(), Fail> {
-    let alloc = rt.alloc();
+fn a_done_trigger_is_written(rt: HostRuntime) -> Result<(), Fail> {
     let text =
         br#"{"cdn-path":["AS64500:0"],"trigger":{"content.urls":["http://v.example/a"],"type":"invalidate"}}"#;
     let expected =
         br#"{"ctime":2,"mtime":12,"status":"complete","trigger":{"content.urls":["http://v.example/a"],"type":"invalidate"}}"#;
-    assert!(rt; is_resource(alloc, text, false, &[], expected)?);
+    let same = is_resource(rt.alloc(), text, false, &[], expected)?;
+    assert!(rt; same);
+    Ok(())
+}
+
+#[test]
+fn a_failed_trigger_is_written(rt: HostRuntime) -> Result<(), Fail> {
     let text =
         br#"{"cdn-path":[],"trigger":{"type":"purge","metadata.urls":["http://m/"],"content.urls":["http://v/a","HTTP://v/b"],"content.ccid":["a\"\\\u0001\n","c"],"metadata.patterns":[{"pattern":"*","case-sensitive":true}],"content.patterns":[{"pattern":"x","match-query-string":true}]}}"#;
     let expected =
         br#"{"ctime":2,"errors":[{"error":"emeta","metadata.urls":["http://m/"]},{"content.urls":["HTTP://v/b","http://v/a"],"error":"econtent"}],"mtime":12,"status":"failed","trigger":{"content.ccid":["a\"\\\u0001\n","c"],"content.patterns":[{"case-sensitive":false,"match-query-string":true,"pattern":"x"}],"content.urls":["http://v/a","HTTP://v/b"],"metadata.patterns":[{"case-sensitive":true,"match-query-string":false,"pattern":"*"}],"metadata.urls":["http://m/"],"type":"purge"}}"#;
-    assert!(rt; is_resource(alloc, text, true, &[1, 0], expected)?);
+    let same = is_resource(rt.alloc(), text, true, &[1, 0], expected)?;
+    assert!(rt; same);
+    Ok(())
+}
 
-    assert!(rt; is_collection(alloc, &[], Filter::Failed, br#"{"triggers":[]}"#)?);
-    assert!(rt;
-        is_collection(
-            alloc,
-            &[2],
-            Filter::Active,
-            br#"{"triggers":["http://control.example/triggers/2"]}"#
-        )?
-    );
+// whether the collection of these triggers is this text
+fn is_list(
+    alloc: Global,
+    ids: &IdList,
+    filter: Filter,
+    own: &ProviderId,
+    control: &HostName,
+    expected: &[u8],
+) -> Result<bool, AllocError> {
+    Ok(collection_json(alloc, ids, filter, own, control)?.is(expected))
+}
+
+// the same, of this CDN and its control host
+fn is_collection(
+    alloc: Global,
+    ids: &IdList,
+    filter: Filter,
+    expected: &[u8],
+) -> Result<bool, Fail> {
+    let own = own_id(alloc)?;
+    let control = control_host(alloc)?;
+    Ok(is_list(alloc, ids, filter, &own, &control, expected)?)
+}
+
+#[test]
+fn a_collection_is_written(rt: HostRuntime) -> Result<(), Fail> {
+    let ids = id_list(rt.alloc(), &[2])?;
+    let expected = br#"{"triggers":["http://control.example/triggers/2"]}"#;
+    let same = is_collection(rt.alloc(), &ids, Filter::Active, expected)?;
+    assert!(rt; same);
+    Ok(())
+}
+
+#[test]
+fn the_collection_of_all_is_written(rt: HostRuntime) -> Result<(), Fail> {
+    let ids = id_list(rt.alloc(), &[2, 18446744073709551615])?;
     let expected =
         br#"{"cdn-id":"AS64496:0","coll-active":"http://control.example/triggers/active","coll-all":"http://control.example/triggers","coll-complete":"http://control.example/triggers/complete","coll-failed":"http://control.example/triggers/failed","coll-pending":"http://control.example/triggers/pending","triggers":["http://control.example/triggers/2","http://control.example/triggers/18446744073709551615"]}"#;
-    assert!(rt; is_collection(alloc, &[2, 18446744073709551615], Filter::All, expected)?);
+    let same = is_collection(rt.alloc(), &ids, Filter::All, expected)?;
+    assert!(rt; same);
     Ok(())
 }

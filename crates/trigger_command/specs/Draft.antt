@@ -81,7 +81,8 @@ kind_named word = if bytes_eq word (codes "preposition") then Some Preposition
 
 unfoldable pub kind_at : List ℕ → Data → Reading TriggerKind
 kind_at path value =
-    needed_text path (codes "type") value >>= λ word. or_fault (child_of path (codes "type")) OutOfRange (kind_named word)
+    needed_text path (codes "type") value
+    >>= λ word. or_fault (child_of path (codes "type")) OutOfRange (kind_named word)
 
 -- a trigger specification (RFC 8007, section 5.2.1)
 unfoldable pub draft_at : List ℕ → Data → Reading Draft

@@ -1,5 +1,6 @@
 -- Reading a trigger command: the value, or the first fault (RFC 8007, sections 4.1, 4.6 and 5).
-use Rattle.std.specs.Prelude.{◌≡◌, ℕ, ◌+◌, ◌-◌, ◌^◌, Bool, true, false, List, bytes_eq, length, min, nat_lt, ◌&&◌, ◌==◌, None, Some, Ok, Err, if◌then◌else◌}
+use Rattle.std.specs.Prelude.{◌≡◌, ℕ, ◌+◌, ◌-◌, ◌^◌, Bool, true, false, List, bytes_eq, length, min, nat_lt, ◌&&◌}
+use Rattle.std.specs.Prelude.{◌==◌, None, Some, Ok, Err, if◌then◌else◌}
 use Rattle.std.specs.List.{list_any}
 use Rattle.std.specs.Option.{option_map_or}
 use Rattle.std.specs.Result.{result_ok}
@@ -50,7 +51,8 @@ pattern_item draft =
     record { text = draft.text; pattern = compiled draft.text draft.case; case = draft.case; query = draft.query }
 
 abbrev pub pattern_item_at : ℕ → PatternDraft → Judged PatternItem
-pattern_item_at i draft = if nat_lt PATTERN_MAX (length draft.text) then Err (fault.BadPattern i) else Ok (pattern_item draft)
+pattern_item_at i draft =
+    if nat_lt PATTERN_MAX (length draft.text) then Err (fault.BadPattern i) else Ok (pattern_item draft)
 
 abbrev pub is_preposition : TriggerKind → Bool
 is_preposition Preposition = true

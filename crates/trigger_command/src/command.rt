@@ -33,13 +33,13 @@ pub struct Command {
 }
 
 impl Command {
-    /// Reads the command of a JSON text (RFC 8007, section 5.1.1). `own` is the id of this CDN, and `control` the host at
-    /// which its triggers have their status resources.
+    /// Reads the command of a JSON text (RFC 8007, section 5.1.1). `own` is the id of this CDN, and `control` the host
+    /// at which its triggers have their status resources.
     ///
     /// # Errors
-    /// The first fault in the order of reading, or want of memory. The order is: the text is JSON; its fields, `cdn-path`
-    /// first, then exactly one of `trigger` and `cancel`, and of a trigger its type and its lists; then `Loop`; then, of a
-    /// trigger, the faults in the order of `CommandFault`; and of a cancel `BadUrl`.
+    /// The first fault in the order of reading, or want of memory. The order is: the text is JSON; its fields,
+    /// `cdn-path` first, then exactly one of `trigger` and `cancel`, and of a trigger its type and its lists; then
+    /// `Loop`; then, of a trigger, the faults in the order of `CommandFault`; and of a cancel `BadUrl`.
     pub fn read(
         alloc: Global,
         bytes: &[u8],

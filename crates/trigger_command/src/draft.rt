@@ -4,7 +4,9 @@ ghost use Rattle.std.specs.Prelude.{◌≡◌, [], map, option_map, None, Some};
 ghost use Rattle.serde_json.specs.View.{view};
 ghost use Rattle.json_read.specs.Field.{Gives, IsFaultAt, text_of};
 ghost use Rattle.json_read.specs.Path.{IsName, child_of};
-ghost use Rattle.trigger_command.specs.Draft.{each_of, list_of, list_or, provider_at, needed_text, flag_or_false, pattern_at, kind_named, kind_at, draft_at, form_found, form_at, path_at, written_of};
+ghost use Rattle.trigger_command.specs.Draft.{each_of, list_of, list_or, provider_at, needed_text, flag_or_false};
+ghost use Rattle.trigger_command.specs.Draft.{pattern_at, kind_named, kind_at, draft_at, form_found, form_at};
+ghost use Rattle.trigger_command.specs.Draft.{path_at, written_of};
 
 use crate::command::ProviderIdList;
 use crate::spec::TriggerKind;

@@ -4,7 +4,9 @@ ghost use Rattle.std.specs.Prelude.{◌≡◌, ◌+◌, ◌<◌, ◌≤◌, leng
 ghost use Rattle.std.specs.List.{list_any};
 ghost use Rattle.serde_json.specs.View.{view};
 ghost use Rattle.trigger_command.specs.Draft.{each_from};
-ghost use Rattle.trigger_command.specs.Reading.{url_at, pattern_item_at, is_preposition, pattern_count, draft_count, wrong_lists, selection_of, spec_of, number_at, act_of, has_own, command_of_written, command_of_value, command_of, Gives};
+ghost use Rattle.trigger_command.specs.Reading.{url_at, pattern_item_at, is_preposition, pattern_count, draft_count};
+ghost use Rattle.trigger_command.specs.Reading.{wrong_lists, selection_of, spec_of, number_at, act_of, has_own};
+ghost use Rattle.trigger_command.specs.Reading.{command_of_written, command_of_value, command_of, Gives};
 ghost use Rattle.trigger_command.specs.Selection.{item_count};
 ghost use Rattle.trigger_command.specs.declared.spec.TheConstants.{SELECTION_MAX};
 

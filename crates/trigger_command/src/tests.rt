@@ -1,8 +1,8 @@
 //! Commands that are read and refused, and keys that are hit.
 
-use crate::{Act, Command, CommandFault, IdList, Spec, TriggerKind};
+use crate::{Act, Command, CommandFault, IdList, Selection, Spec, TriggerKind};
 use cdni_base::{Endpoint, HostName, Ignored, Key, ProviderId, Target, Text, url_key};
-use std::alloc::Global;
+use std::alloc::{AllocError, Global};
 use std::test::Fail;
 
 const REFUSED: [(&str, &str); 22] = [
@@ -89,21 +89,47 @@ fn control_host(alloc: Global) -> Result<HostName, Fail> {
     Ok(Endpoint::read(alloc, b"control.example")?.host)
 }
 
+// the line of a fault; nothing where it is want of memory
+fn line_of(alloc: Global, fault: &CommandFault) -> Result<Text, AllocError> {
+    if matches!(fault, CommandFault::Memory) {
+        return Text::of(alloc, b"");
+    }
+    fault.text(alloc)
+}
+
 // the line by which this text is refused; nothing where it is read
-fn refusal(alloc: Global, text: &[u8]) -> Result<Vec<u8>, Fail> {
-    match Command::read(alloc, text, &own_id(alloc)?, &control_host(alloc)?) {
-        Ok(_) => Ok(Vec::new(alloc)),
-        Err(fault) => {
-            if matches!(&fault, CommandFault::Memory) {
-                return Ok(Vec::new(alloc));
-            }
-            Ok(Vec::from_slice(alloc, fault.text(alloc)?.bytes())?)
-        }
+fn refusal(
+    alloc: Global,
+    text: &[u8],
+    own: &ProviderId,
+    control: &HostName,
+) -> Result<Text, AllocError> {
+    match Command::read(alloc, text, own, control) {
+        Ok(_) => Text::of(alloc, b""),
+        Err(fault) => line_of(alloc, &fault),
     }
 }
 
+// whether this line is `refused` and this fault
+fn is_line(alloc: Global, line: &Text, fault: &str) -> Result<bool, AllocError> {
+    let expected = format!(in alloc; "refused {fault}")?;
+    Ok(line.is(expected.as_bytes()))
+}
+
+// whether this text is refused for this fault
+fn is_refused(
+    alloc: Global,
+    text: &[u8],
+    own: &ProviderId,
+    control: &HostName,
+    fault: &str,
+) -> Result<bool, AllocError> {
+    let line = refusal(alloc, text, own, control)?;
+    is_line(alloc, &line, fault)
+}
+
 // a purge of so many URLs, and of a pattern of so many bytes
-fn large(alloc: Global, urls: usize, pattern: usize) -> Result<Vec<u8>, Fail> {
+fn large(alloc: Global, urls: usize, pattern: usize) -> Result<Vec<u8>, AllocError> {
     let mut text = Vec::from_slice(
         alloc,
         br#"{"cdn-path":[],"trigger":{"type":"purge","content.urls":["http://v/""#,
@@ -121,24 +147,54 @@ fn large(alloc: Global, urls: usize, pattern: usize) -> Result<Vec<u8>, Fail> {
     Ok(text)
 }
 
+// whether that is refused for this fault
+fn is_large_refused(alloc: Global, urls: usize, pattern: usize, fault: &str) -> Result<bool, Fail> {
+    let own = own_id(alloc)?;
+    let control = control_host(alloc)?;
+    let text = large(alloc, urls, pattern)?;
+    Ok(is_refused(alloc, &text, &own, &control, fault)?)
+}
+
 #[test]
 fn commands_are_refused(rt: HostRuntime) -> Result<(), Fail> {
-    let alloc = rt.alloc();
+    let own = own_id(rt.alloc())?;
+    let control = control_host(rt.alloc())?;
     for (text, fault) in &REFUSED {
-        let line = format!(in alloc; "refused {fault}")?;
-        let refused = refusal(alloc, text.as_bytes())?;
-        assert!(rt; refused.as_slice() == line.as_bytes(), "{text}");
+        let refused = is_refused(rt.alloc(), text.as_bytes(), &own, &control, fault)?;
+        assert!(rt; refused, "{text}");
     }
-    assert!(rt; refusal(alloc, &large(alloc, 998, 1024)?)?.is_empty());
-    let refused = refusal(alloc, &large(alloc, 999, 1024)?)?;
-    assert!(rt; refused.as_slice() == b"refused too-many 1001".as_slice());
-    let refused = refusal(alloc, &large(alloc, 998, 1025)?)?;
-    assert!(rt; refused.as_slice() == b"refused bad-pattern 1".as_slice());
     Ok(())
 }
 
-fn key_of(alloc: Global, url: &[u8], ignored: &Ignored) -> Result<Key, Fail> {
-    Ok(url_key(alloc, &Target::read(alloc, url, None, false)?, ignored)?)
+#[test]
+fn large_commands_are_refused(rt: HostRuntime) -> Result<(), Fail> {
+    for (urls, pattern, fault) in [(999, 1024, "too-many 1001"), (998, 1025, "bad-pattern 1")] {
+        let refused = is_large_refused(rt.alloc(), urls, pattern, fault)?;
+        assert!(rt; refused, "{fault}");
+    }
+    Ok(())
+}
+
+// the command of this text, which is to be read
+fn command_of(
+    alloc: Global,
+    text: &[u8],
+    own: &ProviderId,
+    control: &HostName,
+) -> Result<Command, Fail> {
+    let command = Command::read(alloc, text, own, control).ok();
+    Ok(command.ok_or("refused")?)
+}
+
+fn read_command(alloc: Global, text: &[u8]) -> Result<Command, Fail> {
+    let own = own_id(alloc)?;
+    let control = control_host(alloc)?;
+    command_of(alloc, text, &own, &control)
+}
+
+fn key_of(alloc: Global, url: &[u8]) -> Result<Key, Fail> {
+    let target = Target::read(alloc, url, None, false)?;
+    Ok(url_key(alloc, &target, &Ignored::None)?)
 }
 
 fn spec_of(command: &Command) -> Option<&Spec> {
@@ -155,43 +211,77 @@ fn ids_of(command: &Command) -> Option<&IdList> {
     }
 }
 
+// a URL, and whether its content and its metadata are hit
+const HITS: [(&str, bool, bool); 7] = [
+    ("http://v.example/a?x", true, false),
+    ("http://v.example/a", false, false),
+    ("http://v.example/b/x?q", true, false),
+    ("http://v.example/C?q", true, false),
+    ("http://m.example/i", false, true),
+    ("http://m.example/j", false, true),
+    ("http://m.example/k", false, false),
+];
+
+// whether these are the hits of this URL
+fn are_hits(
+    alloc: Global,
+    selection: &Selection,
+    url: &str,
+    content: bool,
+    metadata: bool,
+) -> Result<bool, Fail> {
+    let key = key_of(alloc, url.as_bytes())?;
+    Ok(selection.hits(&key, None) == content && selection.hits_metadata(&key) == metadata)
+}
+
+// whether this URL's content is hit as that of a collection
+fn is_hit_in(alloc: Global, selection: &Selection, url: &str, ccid: &str) -> Result<bool, Fail> {
+    let key = key_of(alloc, url.as_bytes())?;
+    let ccid = Text::of(alloc, ccid.as_bytes())?;
+    Ok(selection.hits(&key, Some(&ccid)))
+}
+
+const TRIGGER: &str =
+    r#"{"trigger":{"metadata.urls":["http://m.example/i"],"content.urls":["https://V.example/a?x"],"content.ccid":["c"],"metadata.patterns":[{"pattern":"http*/j"}],"content.patterns":[{"pattern":"https://v.example/b/?*","case-sensitive":true,"match-query-string":true},{"pattern":"*/c"}],"type":"invalidate"},"cdn-path":["AS1:a"]}"#;
+
 #[test]
 fn a_command_hits_its_keys(rt: HostRuntime) -> Result<(), Fail> {
-    let alloc = rt.alloc();
-    let text =
-        br#"{"trigger":{"metadata.urls":["http://m.example/i"],"content.urls":["https://V.example/a?x"],"content.ccid":["c"],"metadata.patterns":[{"pattern":"http*/j"}],"content.patterns":[{"pattern":"https://v.example/b/?*","case-sensitive":true,"match-query-string":true},{"pattern":"*/c"}],"type":"invalidate"},"cdn-path":["AS1:a"]}"#;
-    let command = Command::read(alloc, text, &own_id(alloc)?, &control_host(alloc)?);
-    let command = command.ok().ok_or("refused")?;
-    assert_eq!(rt; command.path.len(), 1);
+    let command = read_command(rt.alloc(), TRIGGER.as_bytes())?;
     let spec = spec_of(&command).ok_or("no trigger")?;
-    assert!(rt; spec.kind == TriggerKind::Invalidate);
-    let selection = &spec.selection;
-    assert_eq!(rt; selection.item_count(), 6);
+    for (url, content, metadata) in &HITS {
+        let are = are_hits(rt.alloc(), &spec.selection, url, *content, *metadata)?;
+        assert!(rt; are, "{url}");
+    }
+    Ok(())
+}
 
-    let collection = Text::of(alloc, b"c")?;
-    let other = Text::of(alloc, b"cc")?;
-    let key = key_of(alloc, b"http://v.example/a", &Ignored::All)?;
-    assert!(rt; selection.hits(&key, None));
-    let key = key_of(alloc, b"http://v.example/a", &Ignored::None)?;
-    assert!(rt; !selection.hits(&key, None));
-    assert!(rt; !selection.hits(&key, Some(&other)));
-    assert!(rt; selection.hits(&key, Some(&collection)));
-    let key = key_of(alloc, b"http://v.example/b/x?q", &Ignored::None)?;
-    assert!(rt; selection.hits(&key, None));
-    let key = key_of(alloc, b"http://v.example/C?q", &Ignored::None)?;
-    assert!(rt; selection.hits(&key, None));
-    let key = key_of(alloc, b"http://m.example/i", &Ignored::None)?;
-    assert!(rt; selection.hits_metadata(&key) && !selection.hits(&key, None));
-    let key = key_of(alloc, b"http://m.example/j", &Ignored::None)?;
-    assert!(rt; selection.hits_metadata(&key));
-    let key = key_of(alloc, b"http://m.example/k", &Ignored::None)?;
-    assert!(rt; !selection.hits_metadata(&key));
+#[test]
+fn a_command_hits_its_collections(rt: HostRuntime) -> Result<(), Fail> {
+    let command = read_command(rt.alloc(), TRIGGER.as_bytes())?;
+    let spec = spec_of(&command).ok_or("no trigger")?;
+    for (ccid, hit) in [("c", true), ("cc", false)] {
+        let is = is_hit_in(rt.alloc(), &spec.selection, "http://v.example/a", ccid)?;
+        assert!(rt; is == hit, "{ccid}");
+    }
+    Ok(())
+}
 
+#[test]
+fn a_trigger_is_read(rt: HostRuntime) -> Result<(), Fail> {
+    let command = read_command(rt.alloc(), TRIGGER.as_bytes())?;
+    let spec = spec_of(&command).ok_or("no trigger")?;
+    let same = spec.kind == TriggerKind::Invalidate && spec.selection.item_count() == 6;
+    assert!(rt; same && command.path.len() == 1);
+    Ok(())
+}
+
+#[test]
+fn a_cancel_is_read(rt: HostRuntime) -> Result<(), Fail> {
     let text =
         br#"{"cancel":["http://control.example/triggers/7","https://control.example/triggers/18446744073709551615"],"cdn-path":[]}"#;
-    let command = Command::read(alloc, text, &own_id(alloc)?, &control_host(alloc)?);
-    let command = command.ok().ok_or("refused")?;
+    let command = read_command(rt.alloc(), text)?;
     let ids = ids_of(&command).ok_or("no cancel")?;
-    assert!(rt; ids.as_slice() == [7, 18446744073709551615].as_slice());
+    let same = ids.as_slice() == [7, 18446744073709551615].as_slice();
+    assert!(rt; same);
     Ok(())
 }

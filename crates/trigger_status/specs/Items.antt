@@ -1,7 +1,8 @@
 -- Lists of a status resource, as JSON values.
 use Rattle.std.specs.Prelude.{ℕ, List, [], codes, map, slice_get}
 use Rattle.std.specs.Option.{option_map_or}
-use Rattle.serde_json.specs.Data.{Data, boolean, string, array, object, Items, no_items, item, Members, no_members, member}
+use Rattle.serde_json.specs.Data.{Data, boolean, string, array, object, Items, no_items, item, Members, no_members}
+use Rattle.serde_json.specs.Data.{member}
 use Rattle.serde_json.specs.View.{items_of}
 use Rattle.trigger_command.specs.declared.selection.PatternItem.{PatternItem}
 use Rattle.trigger_command.specs.declared.selection.UrlItem.{UrlItem}

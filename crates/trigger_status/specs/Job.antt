@@ -1,6 +1,7 @@
 -- Trigger status resources (RFC 8007, section 5.1.2). The members of an object stand in the order of their bytes.
 use Rattle.std.specs.Prelude.{ℕ, ◌/◌, Bool, true, false, List, [], ◌∷◌, codes}
-use Rattle.serde_json.specs.Data.{Data, number, unsigned, string, array, object, Items, no_items, item, Members, no_members, member}
+use Rattle.serde_json.specs.Data.{Data, number, unsigned, string, array, object, Items, no_items, item, Members}
+use Rattle.serde_json.specs.Data.{no_members, member}
 use Rattle.serde_json.specs.Written.{compact_text}
 use Rattle.trigger_command.specs.Spec.{SpecParts}
 use Rattle.trigger_command.specs.declared.spec.TriggerKind.{TriggerKind}

@@ -2,7 +2,8 @@
 
 ghost use Rattle.std.specs.Prelude.{◌≡◌, ◌++◌, true, false, IfOk, OnOk};
 ghost use Rattle.serde_json.specs.Written.{comma_if, compact_text, items_text, members_text};
-ghost use Rattle.trigger_status.specs.Collection.{control_url, trigger_url, link, some_members, all_members, collection_text};
+ghost use Rattle.trigger_status.specs.Collection.{control_url, trigger_url, link, some_members, all_members};
+ghost use Rattle.trigger_status.specs.Collection.{collection_text};
 ghost use Rattle.trigger_status.specs.Items.{each_as};
 ghost use Rattle.trigger_status.specs.Write.{AddsOne};
 
@@ -14,9 +15,9 @@ use std::alloc::{AllocError, Global};
 use targets::HostName;
 use trigger_command::IdList;
 
-/// The collection of the triggers of these numbers (RFC 8007, section 5.1.3), as JSON without spaces, with the members of
-/// each object in the order of their bytes. The collection of all triggers also has `own`, the id of this CDN, and the
-/// URLs of all collections. URLs are those of `http` at the control host.
+/// The collection of the triggers of these numbers (RFC 8007, section 5.1.3), as JSON without spaces, with the members
+/// of each object in the order of their bytes. The collection of all triggers also has `own`, the id of this CDN, and
+/// the URLs of all collections. URLs are those of `http` at the control host.
 ///
 /// # Errors
 /// Want of memory.

@@ -116,7 +116,8 @@ fn add_pattern_items(out: &mut Vec<u8>, patterns: &[PatternItem]) -> Result<(), 
 }
 
 fn add_pattern(out: &mut Vec<u8>, later: bool, pattern: &PatternItem) -> Result<(), AllocError>
-    ensures { OnOk result (out.new.items ≡ out.old.items ++ (comma_if later ++ compact_text (pattern_data pattern.now))) }
+    ensures { OnOk result (out.new.items ≡ out.old.items
+        ++ (comma_if later ++ compact_text (pattern_data pattern.now))) }
 {
     add_comma(out, later)?;
     out.extend_from_slice(b"{")?;

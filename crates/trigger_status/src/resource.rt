@@ -3,7 +3,8 @@
 ghost use Rattle.std.specs.Prelude.{◌≡◌, ◌++◌, true, false, codes, IfOk, OnOk};
 ghost use Rattle.serde_json.specs.Data.{member, no_members, string};
 ghost use Rattle.serde_json.specs.Written.{compact_text, items_text, members_text};
-ghost use Rattle.trigger_status.specs.Job.{kind_name, status_name, trigger_data, emeta_data, econtent_data, error_items, last_members, job_text};
+ghost use Rattle.trigger_status.specs.Job.{kind_name, status_name, trigger_data, emeta_data, econtent_data};
+ghost use Rattle.trigger_status.specs.Job.{error_items, last_members, job_text};
 ghost use Rattle.trigger_status.specs.Write.{AddsMember, AddsOne};
 
 use crate::items::{
@@ -15,9 +16,9 @@ use listing::Text;
 use std::alloc::{AllocError, Global};
 use trigger_command::{Spec, TriggerKind};
 
-/// The status resource of a trigger (RFC 8007, section 5.1.2), as JSON without spaces, with the members of each object in
-/// the order of their bytes: `ctime` and `mtime` in whole seconds, `errors` where there are any, `status`, and `trigger`
-/// with its type and the lists that are not empty.
+/// The status resource of a trigger (RFC 8007, section 5.1.2), as JSON without spaces, with the members of each object
+/// in the order of their bytes: `ctime` and `mtime` in whole seconds, `errors` where there are any, `status`, and
+/// `trigger` with its type and the lists that are not empty.
 ///
 /// # Errors
 /// Want of memory.

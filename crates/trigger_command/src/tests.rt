@@ -241,8 +241,12 @@ fn is_hit_in(alloc: Global, selection: &Selection, url: &str, ccid: &str) -> Res
     Ok(selection.hits(&key, Some(&ccid)))
 }
 
-const TRIGGER: &str =
-    r#"{"trigger":{"metadata.urls":["http://m.example/i"],"content.urls":["https://V.example/a?x"],"content.ccid":["c"],"metadata.patterns":[{"pattern":"http*/j"}],"content.patterns":[{"pattern":"https://v.example/b/?*","case-sensitive":true,"match-query-string":true},{"pattern":"*/c"}],"type":"invalidate"},"cdn-path":["AS1:a"]}"#;
+const TRIGGER: &str = concat!(
+    r#"{"trigger":{"metadata.urls":["http://m.example/i"],"content.urls":["https://V.example/a?x"],"#,
+    r#""content.ccid":["c"],"metadata.patterns":[{"pattern":"http*/j"}],"#,
+    r#""content.patterns":[{"pattern":"https://v.example/b/?*","case-sensitive":true,"#,
+    r#""match-query-string":true},{"pattern":"*/c"}],"type":"invalidate"},"cdn-path":["AS1:a"]}"#,
+);
 
 #[test]
 fn a_command_hits_its_keys(rt: HostRuntime) -> Result<(), Fail> {
@@ -277,9 +281,11 @@ fn a_trigger_is_read(rt: HostRuntime) -> Result<(), Fail> {
 
 #[test]
 fn a_cancel_is_read(rt: HostRuntime) -> Result<(), Fail> {
-    let text =
-        br#"{"cancel":["http://control.example/triggers/7","https://control.example/triggers/18446744073709551615"],"cdn-path":[]}"#;
-    let command = read_command(rt.alloc(), text)?;
+    let text = concat!(
+        r#"{"cancel":["http://control.example/triggers/7","#,
+        r#""https://control.example/triggers/18446744073709551615"],"cdn-path":[]}"#,
+    );
+    let command = read_command(rt.alloc(), text.as_bytes())?;
     let ids = ids_of(&command).ok_or("no cancel")?;
     let same = ids.as_slice() == [7, 18446744073709551615].as_slice();
     assert!(rt; same);

@@ -1,0 +1,6 @@
+pub mod FieldLemmas
+pub mod FoundLemmas
+pub mod HeadLemmas
+pub mod InboxLemmas
+pub mod LimitLemmas
+pub mod MoveLemmas

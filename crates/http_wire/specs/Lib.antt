@@ -1,0 +1,6 @@
+pub mod Fields
+pub mod Head
+pub mod Inbox
+pub mod Limits
+pub mod Moves
+pub mod Reading

@@ -1,0 +1,15 @@
+//! Messages of HTTP/1.1 as bytes (RFC 9112): heads and bodies are read from a source, heads of answers are put into a
+//! scratch.
+#![tactic(auto)]
+
+mod fields;
+mod head;
+mod inbox;
+mod limits;
+mod reading;
+
+pub use fields::{Found, Header};
+pub use head::{Head, read_head};
+pub use inbox::{Filled, Inbox};
+pub use limits::{FEEDS_MAX, FIELDS_MAX, HEAD_MAX};
+pub use reading::HeadRead;

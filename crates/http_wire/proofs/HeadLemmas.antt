@@ -54,7 +54,7 @@ refused bytes error.Version invalid many = inl (invalid (λ p. cc))
 refused bytes error.TooManyHeaders invalid many = inr (many_feeds bytes (many refl))
 
 -- what a span covers lies in the front of the bytes
-span-take : (n : ℕ) (bytes : List ℕ) (span : Span) → IsWithin n span → span_bytes (take n bytes) span ≡ span_bytes bytes span
+pub span-take : (n : ℕ) (bytes : List ℕ) (span : Span) → IsWithin n span → span_bytes (take n bytes) span ≡ span_bytes bytes span
 span-take n bytes span within =
     let m = n - span.start in
     let whole : span.start + m ≡ n = omega (arith, within.0, within.1) in
@@ -62,7 +62,7 @@ span-take n bytes span within =
     ∙ ap (take (span.end - span.start)) (drop-take span.start m bytes)
     ∙ take-take (span.end - span.start) m (drop span.start bytes) (omega (arith, within.0, within.1))
 
-headers-take : (n : ℕ) (bytes : List ℕ) (spans : List HeaderSpan) → All (IsHeaderWithin n) spans → map (header_bytes (take n bytes)) spans ≡ map (header_bytes bytes) spans
+pub headers-take : (n : ℕ) (bytes : List ℕ) (spans : List HeaderSpan) → All (IsHeaderWithin n) spans → map (header_bytes (take n bytes)) spans ≡ map (header_bytes bytes) spans
 headers-take n bytes [] within = refl
 headers-take n bytes (span ∷ spans) within =
     let first : IsHeaderWithin n span = within zero span (omega arith) in

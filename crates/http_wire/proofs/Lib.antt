@@ -4,3 +4,4 @@ pub mod HeadLemmas
 pub mod InboxLemmas
 pub mod LimitLemmas
 pub mod MoveLemmas
+pub mod ResponseLemmas

@@ -4,3 +4,4 @@ pub mod Inbox
 pub mod Limits
 pub mod Moves
 pub mod Reading
+pub mod Response

@@ -7,9 +7,11 @@ mod head;
 mod inbox;
 mod limits;
 mod reading;
+mod response;
 
 pub use fields::{Found, Header};
 pub use head::{Head, read_head};
 pub use inbox::{Filled, Inbox};
 pub use limits::{FEEDS_MAX, FIELDS_MAX, HEAD_MAX};
 pub use reading::HeadRead;
+pub use response::{ResponseHead, read_response_head};

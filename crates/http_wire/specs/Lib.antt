@@ -1,3 +1,4 @@
+pub mod Answer
 pub mod Fields
 pub mod Head
 pub mod Inbox

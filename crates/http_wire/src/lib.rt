@@ -2,6 +2,7 @@
 //! scratch.
 #![tactic(auto)]
 
+mod answer;
 mod fields;
 mod head;
 mod inbox;
@@ -9,6 +10,7 @@ mod limits;
 mod reading;
 mod response;
 
+pub use answer::{Allow, AnswerHead, ContentRange, Location, Made, put_head};
 pub use fields::{Found, Header};
 pub use head::{Head, read_head};
 pub use inbox::{Filled, Inbox};

@@ -14,12 +14,11 @@ use Rattle.http_wire.proofs.LimitLemmas.{feeds-append}
 
 -- what the reading rests on, of a kind of head
 pub record IsGrammar {H : Type 0} (Spells : List ℕ → H → Type 0) (HasNone IsOver : List ℕ → Type 0) : Type 0 where
-  pub limits : (bytes : List ℕ) (head : H) → Spells bytes head → IsWithinLimits bytes
+  pub short : (bytes : List ℕ) (head : H) → Spells bytes head → length bytes ≤ HEAD_MAX
   pub some : (bytes : List ℕ) (head : H) → Spells bytes head → 0 < length bytes
   pub one : (bytes rest other more : List ℕ) (head last : H) → Spells bytes head → Spells other last → bytes ++ rest ≡ other ++ more → last ≡ head
   pub none : (bytes rest text : List ℕ) (head : H) → Spells bytes head → text ≡ bytes ++ rest → HasNone text → ⊥
-  pub over : (bytes rest text more : List ℕ) (head : H) → Spells bytes head → text ++ more ≡ bytes ++ rest → IsOver text → ⊥
-  pub ends : (bytes : List ℕ) (head : H) (n : ℕ) → Spells bytes head → n < length bytes → 1 ≤ feeds (drop n bytes)
+  pub over : (bytes rest text more : List ℕ) (head : H) → Spells bytes head → text ++ more ≡ bytes ++ rest → HasNone text → IsOver text → ⊥
 
 -- what the source has left after a reading
 pub still_left : (old new : Option (List ℕ)) (before after bytes left : List ℕ) → Moves old new before after bytes → old ≡ Some left
@@ -36,25 +35,24 @@ shorter front rest text more same short =
     let is : take n text ≡ front = sym (take-append-le n text more short) ∙ ap (take n) same ∙ take-append_seam front rest in
     sym (take-append-drop n text) ∙ ap (λ x. x ++ drop n text) is
 
+-- a beginning with as many line feeds as a head can have is longer than the head
+pub feeds_over : (bytes rest text more : List ℕ) → IsWithinLimits bytes → ((n : ℕ) → n < length bytes → 1 ≤ feeds (drop n bytes)) → text ++ more ≡ bytes ++ rest
+    → FEEDS_MAX ≤ feeds text → length bytes ≤ length text
+feeds_over bytes rest text more limits ends same many = elim (cases_lt (length text) (length bytes)) [
+  | inl short ↦
+      let whole = shorter text more bytes rest (sym same) (omega (arith, short)) in
+      absurd (omega (arith, limits.1, ap feeds whole, feeds-append text (drop (length text) bytes), many, ends (length text) short))
+  | inr long ↦ long
+]
+
 module _ {H : Type 0} (Spells : List ℕ → H → Type 0) (HasNone IsOpen IsOver : List ℕ → Type 0) (grammar : IsGrammar Spells HasNone IsOver) where
   longer : (bytes rest text more : List ℕ) (head : H) → Spells bytes head → text ++ more ≡ bytes ++ rest → length bytes ≤ length text → HasNone text → ⊥
   longer bytes rest text more head spells same short none = grammar.none bytes _ text head spells (shorter bytes rest text more same short) none
 
-  -- a beginning with as many line feeds as a head can have is longer than the head
-  feeds_over : (bytes rest text more : List ℕ) (head : H) → Spells bytes head → text ++ more ≡ bytes ++ rest → FEEDS_MAX ≤ feeds text → length text < length bytes → ⊥
-  feeds_over bytes rest text more head spells same many short =
-      let whole = shorter text more bytes rest (sym same) (omega (arith, short)) in
-      let last = grammar.ends bytes head (length text) spells short in
-      omega (arith, (grammar.limits bytes head spells).1, ap feeds whole, feeds-append text (drop (length text) bytes), many, last)
-
   hopeless : (bytes rest text more : List ℕ) (head : H) → Spells bytes head → text ++ more ≡ bytes ++ rest → HasNone text → IsHopeless Spells HasNone IsOpen IsOver text → ⊥
-  hopeless bytes rest text more head spells same none (inl over) = grammar.over bytes rest text more head spells same over
-  hopeless bytes rest text more head spells same none (inr (inr long)) =
-      longer bytes rest text more head spells same (omega (arith, (grammar.limits bytes head spells).0, long)) none
-  hopeless bytes rest text more head spells same none (inr (inl many)) = elim (cases_lt (length text) (length bytes)) [
-    | inl short ↦ feeds_over bytes rest text more head spells same many short
-    | inr long ↦ longer bytes rest text more head spells same long none
-  ]
+  hopeless bytes rest text more head spells same none (inl over) = grammar.over bytes rest text more head spells same none over
+  hopeless bytes rest text more head spells same none (inr long) =
+      longer bytes rest text more head spells same (omega (arith, grammar.short bytes head spells, long)) none
 
   pub finds : (old new : Option (List ℕ)) (before after : List ℕ) (result : HeadRead H) → ReadsHead Spells HasNone IsOpen IsOver old new before after result
       → FindsHead Spells old before result

@@ -1,4 +1,5 @@
 pub mod AnswerLemmas
+pub mod BodyLemmas
 pub mod FieldLemmas
 pub mod FoundLemmas
 pub mod HeadLemmas

@@ -13,11 +13,11 @@ use Rattle.httparse.specs.Grammar.{ResponseHead, print_response, print_end, lf, 
 use Rattle.httparse.specs.Spans.{IsWithin, IsHeaderWithin, span_bytes, header_bytes, name_and_value, IsResponseAt, IsResponseWithin, ResponseOverflows, ResponseExceeds}
 use Rattle.httparse.proofs.GrammarLemmas.{response_unique}
 use Rattle.http_wire.specs.Limits.{feeds, IsWithinLimits}
-use Rattle.http_wire.specs.Response.{ResponseParts, SpellsResponse, HasNoResponseHead, response_parts_of, response_parts_at}
+use Rattle.http_wire.specs.Response.{ResponseParts, SpellsResponse, HasNoResponseHead, IsHopelessResponse, response_parts_of, response_parts_at}
 use Rattle.http_wire.specs.declared.limits.TheConstants.{HEAD_MAX, FEEDS_MAX, FIELDS_MAX}
 use Rattle.http_wire.proofs.LimitLemmas.{feeds-append, feeds-take, feeds-end, feeds-lines, lines-end, feeds-le-length}
 use Rattle.http_wire.proofs.HeadLemmas.{headers-take}
-use Rattle.http_wire.proofs.FoundLemmas.{IsGrammar}
+use Rattle.http_wire.proofs.FoundLemmas.{IsGrammar, shorter, feeds_over}
 
 pub feeds-response : (head : ResponseHead) → length head.fields + 2 ≤ feeds (print_response head)
 unfolding print_response
@@ -45,7 +45,7 @@ many_feeds bytes x =
     omega (arith, ap feeds x.2, feeds-append x.0 x.1, feeds-append x.0 (print_end lf), feeds-end lf, ap feeds (x.4.1 ∙ append-nil (print_response x.3)), feeds-response x.3, x.5)
 
 pub refused : (bytes : List ℕ) (e : Error) → (e ≢ error.TooManyHeaders → NeverHasResponse bytes) → (e ≡ error.TooManyHeaders → ResponseExceeds FIELDS_MAX bytes)
-    → NeverHasResponse bytes ⊎ (FEEDS_MAX ≤ feeds bytes)
+    → IsHopelessResponse bytes
 refused bytes error.HeaderName invalid many = inl (invalid (λ p. cc))
 refused bytes error.HeaderValue invalid many = inl (invalid (λ p. cc))
 refused bytes error.NewLine invalid many = inl (invalid (λ p. cc))
@@ -88,17 +88,25 @@ spelled bytes head reads = reads.1 ∙ append-nil (print_response head)
 begins : (bytes rest text : List ℕ) (head : ResponseHead) → ReadsResponse bytes head [] → text ≡ bytes ++ rest → ReadsResponse text head rest
 begins bytes rest text head reads is = (reads.0, is ∙ ap (λ x. x ++ rest) (spelled bytes head reads))
 
-pub response_grammar : IsGrammar SpellsResponse HasNoResponseHead NeverHasResponse
+none_after : (bytes rest text more : List ℕ) (parts : ResponseParts) → SpellsResponse bytes parts → text ++ more ≡ bytes ++ rest → length bytes ≤ length text → HasNoResponseHead text → ⊥
+none_after bytes rest text more parts spells is short none =
+    none spells.head _ (begins bytes _ text spells.head spells.reads (shorter bytes rest text more is short)) (subst IsWithinLimits (spelled bytes spells.head spells.reads) spells.limits)
+
+over_after : (bytes rest text more : List ℕ) (parts : ResponseParts) → SpellsResponse bytes parts → text ++ more ≡ bytes ++ rest → HasNoResponseHead text → IsHopelessResponse text → ⊥
+over_after bytes rest text more parts spells is none (inl over) = over more spells.head rest (begins bytes rest _ spells.head spells.reads is)
+over_after bytes rest text more parts spells is none (inr many) =
+    let P : List ℕ → Type 0 = λ x. (n : ℕ) → n < length x → 1 ≤ feeds (drop n x) in
+    let ends = subst P (sym (spelled bytes spells.head spells.reads)) (response-ends spells.head) in
+    none_after bytes rest text more parts spells is (feeds_over bytes rest text more spells.limits ends is many) none
+
+pub response_grammar : IsGrammar SpellsResponse HasNoResponseHead IsHopelessResponse
 response_grammar = record {
-  limits = λ bytes head spells. spells.limits;
+  short = λ bytes head spells. spells.limits.0;
   some = λ bytes head spells. omega (arith, feeds-response spells.head, ap feeds (spelled bytes spells.head spells.reads), feeds-le-length bytes);
   one = λ bytes rest other more head last spells spells' same.
       let equal = response_unique (bytes ++ rest) spells.head spells'.head rest more (begins bytes rest _ spells.head spells.reads refl) (begins other more _ spells'.head spells'.reads same) in
       spells'.parts_are ∙ ap response_parts_of (sym equal.0) ∙ sym spells.parts_are;
   none = λ bytes rest text head spells is none.
       none spells.head rest (begins bytes rest text spells.head spells.reads is) (subst IsWithinLimits (spelled bytes spells.head spells.reads) spells.limits);
-  over = λ bytes rest text more head spells is over. over more spells.head rest (begins bytes rest _ spells.head spells.reads is);
-  ends = λ bytes head n spells inside.
-      let P : List ℕ → Type 0 = λ x. n < length x → 1 ≤ feeds (drop n x) in
-      subst P (sym (spelled bytes spells.head spells.reads)) (response-ends spells.head n) inside;
+  over = λ bytes rest text more head spells is none over. over_after bytes rest text more head spells is none over;
 }

@@ -1,10 +1,11 @@
 -- Heads of requests (RFC 9112, sections 2 to 5).
-use Rattle.std.specs.Prelude.{◌≡◌, ℕ, List, [], map}
-use Rattle.httparse.specs.Grammar.{RequestHead, print_request, ReadsRequest}
+use Rattle.std.specs.Prelude.{◌≡◌, ◌⊎◌, ℕ, ◌≤◌, List, [], map}
+use Rattle.httparse.specs.Grammar.{RequestHead, print_request, ReadsRequest, NeverHasRequest}
 use Rattle.httparse.specs.Spans.{name_and_value, span_bytes, header_bytes}
 use Rattle.httparse.specs.declared.spans.HeaderSpan.{HeaderSpan}
 use Rattle.httparse.specs.declared.spans.RequestSpans.{RequestSpans}
-use Rattle.http_wire.specs.Limits.{IsWithinLimits}
+use Rattle.http_wire.specs.Limits.{feeds, IsWithinLimits}
+use Rattle.http_wire.specs.declared.limits.TheConstants.{FEEDS_MAX}
 
 -- the method, the target, the minor version, and the name and value of each header field
 pub record HeadParts : Type 0 where
@@ -33,6 +34,10 @@ pub record Spells (bytes : List ℕ) (parts : HeadParts) : Type 0 where
 abbrev pub HasNoHead : List ℕ → Type 0
 HasNoHead bytes = (head : RequestHead) (rest : List ℕ) → ReadsRequest bytes head rest
     → IsWithinLimits (print_request head) → ⊥
+
+-- no continuation is a head, or the bytes have as many line feeds as a head may have
+abbrev pub IsHopelessHead : List ℕ → Type 0
+IsHopelessHead bytes = NeverHasRequest bytes ⊎ (FEEDS_MAX ≤ feeds bytes)
 
 -- what stands at these places of the bytes
 abbrev pub parts_at : List ℕ → RequestSpans → List HeaderSpan → HeadParts

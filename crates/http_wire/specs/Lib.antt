@@ -1,4 +1,5 @@
 pub mod Answer
+pub mod Body
 pub mod Fields
 pub mod Head
 pub mod Inbox

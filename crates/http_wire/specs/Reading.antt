@@ -3,20 +3,19 @@ use Rattle.std.specs.Prelude.{◌≡◌, ◌≢◌, ℕ, ◌<◌, ◌≤◌, Lis
 use Rattle.std.specs.declared.option.Option.{Option}
 use Rattle.std.specs.Io.KnownBytes.{IsAtEnd}
 use Rattle.edge_base.specs.Causes.{Rose}
-use Rattle.http_wire.specs.Limits.{feeds}
 use Rattle.http_wire.specs.Moves.{Moves, IsToCome}
-use Rattle.http_wire.specs.declared.limits.TheConstants.{HEAD_MAX, FEEDS_MAX}
+use Rattle.http_wire.specs.declared.limits.TheConstants.{HEAD_MAX}
 use Rattle.http_wire.specs.declared.reading.HeadRead.{HeadRead}
 use Rattle.http_wire.specs.declared.reading.HeadRead.TheVariants as read
 use Rattle.http_wire.specs.declared.reading.Tried.{Tried}
 use Rattle.http_wire.specs.declared.reading.Tried.TheVariants as tried
 
 -- Spells bytes head: the bytes are this head within the limits. HasNone bytes: they begin with no such head.
--- IsOpen bytes: they end within a head. IsOver bytes: no bytes can follow with which they begin with a head.
+-- IsOpen bytes: they end within a head. IsOver bytes: no bytes can follow with which they begin with such a head.
 module _ {H : Type 0} (Spells : List ℕ → H → Type 0) (HasNone IsOpen IsOver : List ℕ → Type 0) where
-  -- no continuation is a head, or the bytes are at one of the two limits
+  -- no continuation is such a head, or the bytes are as many as one may have
   abbrev pub IsHopeless : List ℕ → Type 0
-  IsHopeless bytes = IsOver bytes ⊎ ((FEEDS_MAX ≤ feeds bytes) ⊎ (length bytes ≡ HEAD_MAX))
+  IsHopeless bytes = IsOver bytes ⊎ (length bytes ≡ HEAD_MAX)
 
   -- the bytes are so many, begin with no head, and are hopeless
   pub record IsBadHead (bytes : List ℕ) (taken : ℕ) : Type 0 where
@@ -44,7 +43,7 @@ module _ {H : Type 0} (Spells : List ℕ → H → Type 0) (HasNone IsOpen IsOve
   abbrev pub Tries : List ℕ → Tried H → Type 0
   Tries bytes (tried.Whole head size) = (size ≤ length bytes) × Spells (take size bytes) head
   Tries bytes tried.More = HasNone bytes × IsOpen bytes
-  Tries bytes tried.Never = HasNone bytes × (IsOver bytes ⊎ (FEEDS_MAX ≤ feeds bytes))
+  Tries bytes tried.Never = HasNone bytes × IsOver bytes
   Tries bytes tried.Memory = Unit {0}
 
 -- the answer is this head, or the source failed, or no memory was found

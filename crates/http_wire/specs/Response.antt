@@ -1,10 +1,11 @@
 -- Heads of responses (RFC 9112, sections 2 to 5).
-use Rattle.std.specs.Prelude.{◌≡◌, ℕ, List, [], map}
-use Rattle.httparse.specs.Grammar.{ResponseHead, print_response, ReadsResponse, status_code}
+use Rattle.std.specs.Prelude.{◌≡◌, ◌⊎◌, ℕ, ◌≤◌, List, [], map}
+use Rattle.httparse.specs.Grammar.{ResponseHead, print_response, ReadsResponse, NeverHasResponse, status_code}
 use Rattle.httparse.specs.Spans.{name_and_value, header_bytes}
 use Rattle.httparse.specs.declared.spans.HeaderSpan.{HeaderSpan}
 use Rattle.httparse.specs.declared.spans.ResponseSpans.{ResponseSpans}
-use Rattle.http_wire.specs.Limits.{IsWithinLimits}
+use Rattle.http_wire.specs.Limits.{feeds, IsWithinLimits}
+use Rattle.http_wire.specs.declared.limits.TheConstants.{FEEDS_MAX}
 
 -- the status code, the minor version, and the name and value of each header field
 pub record ResponseParts : Type 0 where
@@ -31,6 +32,10 @@ pub record SpellsResponse (bytes : List ℕ) (parts : ResponseParts) : Type 0 wh
 abbrev pub HasNoResponseHead : List ℕ → Type 0
 HasNoResponseHead bytes = (head : ResponseHead) (rest : List ℕ) → ReadsResponse bytes head rest
     → IsWithinLimits (print_response head) → ⊥
+
+-- no continuation is a head, or the bytes have as many line feeds as a head may have
+abbrev pub IsHopelessResponse : List ℕ → Type 0
+IsHopelessResponse bytes = NeverHasResponse bytes ⊎ (FEEDS_MAX ≤ feeds bytes)
 
 -- what stands at these places of the bytes
 abbrev pub response_parts_at : List ℕ → ResponseSpans → List HeaderSpan → ResponseParts

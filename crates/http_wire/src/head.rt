@@ -1,10 +1,10 @@
 //! Heads of requests (RFC 9112, sections 2 to 5).
 
 ghost use Rattle.std.specs.Prelude.{◌≡◌, ◌<◌, ◌≤◌, length, All, IfOk, Some, slice_get};
-ghost use Rattle.httparse.specs.Grammar.{MayBecomeRequest, NeverHasRequest};
+ghost use Rattle.httparse.specs.Grammar.{MayBecomeRequest};
 ghost use Rattle.http_wire.specs.Fields.{IsFound, values_of};
 ghost use Rattle.httparse.specs.Spans.{IsWithin, IsHeaderWithin};
-ghost use Rattle.http_wire.specs.Head.{Spells, HasNoHead, parts_at};
+ghost use Rattle.http_wire.specs.Head.{Spells, HasNoHead, IsHopelessHead, parts_at};
 ghost use Rattle.http_wire.specs.Reading.{ReadsHead, FindsHead, HasHeadCause, Tries};
 ghost use Rattle.http_wire.specs.declared.limits.TheConstants.{HEAD_MAX};
 
@@ -92,7 +92,7 @@ impl Head {
 // the head at the front of these bytes, if it is there whole
 fn try_head(alloc: Global, bytes: &[u8]) -> Tried<Head>
     requires { length bytes.now ≤ HEAD_MAX }
-    ensures { Tries Spells HasNoHead MayBecomeRequest NeverHasRequest bytes.now result }
+    ensures { Tries Spells HasNoHead MayBecomeRequest IsHopelessHead bytes.now result }
 {
     let mut spans = [EMPTY_HEADER_SPAN; FIELDS_MAX];
     match parse_request(bytes, &mut spans) {
@@ -138,8 +138,8 @@ fn head_of(
 }
 
 impl HeadForm for Head {
-    ghost use Rattle.http_wire.specs.Head.{Spells, HasNoHead};
-    ghost use Rattle.httparse.specs.Grammar.{MayBecomeRequest, NeverHasRequest};
+    ghost use Rattle.http_wire.specs.Head.{Spells, HasNoHead, IsHopelessHead};
+    ghost use Rattle.httparse.specs.Grammar.{MayBecomeRequest};
 
     ghost spells = { Spells };
 
@@ -147,7 +147,7 @@ impl HeadForm for Head {
 
     ghost is_open = { MayBecomeRequest };
 
-    ghost is_over = { NeverHasRequest };
+    ghost is_over = { IsHopelessHead };
 
     fn try_read(alloc: Global, bytes: &[u8]) -> Tried<Head> {
         try_head(alloc, bytes)
@@ -159,7 +159,7 @@ impl HeadForm for Head {
 /// came are kept there, and `taken` is their number. Where the bytes begin with a head within the limits, no answer
 /// comes but it, `ReadFault` and `Memory`.
 pub fn read_head<S: Source>(alloc: Global, source: &mut S, inbox: &mut Inbox) -> HeadRead<Head>
-    ensures bytes { ReadsHead Spells HasNoHead MayBecomeRequest NeverHasRequest
+    ensures bytes { ReadsHead Spells HasNoHead MayBecomeRequest IsHopelessHead
         (S.left source.old) (S.left source.new) inbox.old inbox.new result }
     ensures found { FindsHead Spells (S.left source.old) inbox.old result }
     ensures cause { HasHeadCause (S.faults source.old) (S.faults source.new) result }

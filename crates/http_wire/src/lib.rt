@@ -3,6 +3,7 @@
 #![tactic(auto)]
 
 mod answer;
+mod body;
 mod fields;
 mod head;
 mod inbox;
@@ -11,6 +12,7 @@ mod reading;
 mod response;
 
 pub use answer::{Allow, AnswerHead, ContentRange, Location, Made, put_head};
+pub use body::{BodyRead, body_of, read_length};
 pub use fields::{Found, Header};
 pub use head::{Head, read_head};
 pub use inbox::{Filled, Inbox};

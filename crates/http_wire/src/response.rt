@@ -1,10 +1,10 @@
 //! Heads of responses (RFC 9112, sections 2 to 5).
 
 ghost use Rattle.std.specs.Prelude.{◌≡◌, ◌<◌, ◌≤◌, length, All, IfOk, Some, slice_get};
-ghost use Rattle.httparse.specs.Grammar.{MayBecomeResponse, NeverHasResponse};
+ghost use Rattle.httparse.specs.Grammar.{MayBecomeResponse};
 ghost use Rattle.http_wire.specs.Fields.{IsFound, values_of};
 ghost use Rattle.httparse.specs.Spans.{IsHeaderWithin};
-ghost use Rattle.http_wire.specs.Response.{SpellsResponse, HasNoResponseHead, response_parts_at};
+ghost use Rattle.http_wire.specs.Response.{SpellsResponse, HasNoResponseHead, IsHopelessResponse, response_parts_at};
 ghost use Rattle.http_wire.specs.Reading.{ReadsHead, FindsHead, HasHeadCause, Tries};
 ghost use Rattle.http_wire.specs.declared.limits.TheConstants.{HEAD_MAX};
 
@@ -75,7 +75,7 @@ impl ResponseHead {
 // the head at the front of these bytes, if it is there whole
 fn try_head(alloc: Global, bytes: &[u8]) -> Tried<ResponseHead>
     requires { length bytes.now ≤ HEAD_MAX }
-    ensures { Tries SpellsResponse HasNoResponseHead MayBecomeResponse NeverHasResponse bytes.now result }
+    ensures { Tries SpellsResponse HasNoResponseHead MayBecomeResponse IsHopelessResponse bytes.now result }
 {
     let mut spans = [EMPTY_HEADER_SPAN; FIELDS_MAX];
     match parse_response(bytes, &mut spans) {
@@ -118,8 +118,8 @@ fn head_of(
 }
 
 impl HeadForm for ResponseHead {
-    ghost use Rattle.http_wire.specs.Response.{SpellsResponse, HasNoResponseHead};
-    ghost use Rattle.httparse.specs.Grammar.{MayBecomeResponse, NeverHasResponse};
+    ghost use Rattle.http_wire.specs.Response.{SpellsResponse, HasNoResponseHead, IsHopelessResponse};
+    ghost use Rattle.httparse.specs.Grammar.{MayBecomeResponse};
 
     ghost spells = { SpellsResponse };
 
@@ -127,7 +127,7 @@ impl HeadForm for ResponseHead {
 
     ghost is_open = { MayBecomeResponse };
 
-    ghost is_over = { NeverHasResponse };
+    ghost is_over = { IsHopelessResponse };
 
     fn try_read(alloc: Global, bytes: &[u8]) -> Tried<ResponseHead> {
         try_head(alloc, bytes)
@@ -141,7 +141,7 @@ pub fn read_response_head<S: Source>(
     source: &mut S,
     inbox: &mut Inbox,
 ) -> HeadRead<ResponseHead>
-    ensures bytes { ReadsHead SpellsResponse HasNoResponseHead MayBecomeResponse NeverHasResponse
+    ensures bytes { ReadsHead SpellsResponse HasNoResponseHead MayBecomeResponse IsHopelessResponse
         (S.left source.old) (S.left source.new) inbox.old inbox.new result }
     ensures found { FindsHead SpellsResponse (S.left source.old) inbox.old result }
     ensures cause { HasHeadCause (S.faults source.old) (S.faults source.new) result }

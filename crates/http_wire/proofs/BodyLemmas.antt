@@ -1,0 +1,42 @@
+-- Pieces of a body.
+use Rattle.std.proofs.Common.{◌≡◌, ℕ, ◌+◌, ◌-◌, ◌*◌, ◌<◌, ◌≤◌, List, [], ◌∷◌, ◌++◌, length, take, drop, min, refl, sym, ◌∙◌, ap, subst, arith, Option, None, Some, append_assoc, append-nil, length-append}
+use Rattle.std.proofs.Math.Seq.{take-append_seam}
+use Rattle.std.proofs.lemmas.List.{length-take, length-drop}
+use Rattle.std.specs.Io.KnownBytes.{Consumes, Keeps}
+use Rattle.http_wire.specs.Moves.{Moves, IsToCome}
+use Rattle.http_wire.specs.Body.{Passes, MovesPiece}
+use Rattle.http_wire.proofs.MoveLemmas.{moves_passed, moves_filled}
+use Rattle.http_wire.proofs.FoundLemmas.{still_left}
+
+-- two beginnings of one text that are as long
+pub same_front : (front rest other more : List ℕ) → front ++ rest ≡ other ++ more → length front ≡ length other → front ≡ other
+same_front front rest other more same long =
+    sym (take-append_seam front rest) ∙ ap (take (length front)) same ∙ ap (λ n. take n (other ++ more)) long ∙ take-append_seam other more
+
+pub passes_moved : (old now : Option (List ℕ)) (before after later text longer more bytes : List ℕ) (most count : ℕ)
+    → Passes old now before after text longer bytes → MovesPiece most count after later longer more → Passes old now before later text more (bytes ++ take count after)
+passes_moved old now before after later text longer more bytes most count p m = record {
+  moves = moves_passed old now before after later bytes count p.moves m.passed;
+  grown = m.grown ∙ ap (λ x. x ++ take count after) p.grown ∙ append_assoc text bytes (take count after);
+}
+
+pub passes_filled : (old now new : Option (List ℕ)) (before after later text longer bytes more : List ℕ)
+    → Passes old now before after text longer bytes → Consumes now new more → later ≡ after ++ more → Passes old new before later text longer bytes
+passes_filled old now new before after later text longer bytes more p consumed grown = record {
+  moves = moves_filled old now new before after later bytes more p.moves consumed grown;
+  grown = p.grown;
+}
+
+pub moved_length : (after later text longer bytes : List ℕ) (most count : ℕ) → MovesPiece most count after later text longer → length (bytes ++ take count after) ≡ length bytes + count
+moved_length after later text longer bytes most count m =
+    length-append bytes (take count after) ∙ omega (arith, length-take count after, m.is)
+
+pub moved_rest : (after later text longer : List ℕ) (most count : ℕ) → MovesPiece most count after later text longer → length later ≡ length after - count
+moved_rest after later text longer most count m = ap length m.passed ∙ length-drop count after
+
+-- a body that came whole is the one to come
+pub is_whole : (old new : Option (List ℕ)) (before after bytes text rest : List ℕ) → Moves old new before after bytes → length bytes ≡ length text
+    → IsToCome old before (text ++ rest) → bytes ≡ text
+is_whole old new before after bytes text rest m long come =
+    let left = still_left old new before after bytes come.0 m come.1 in
+    same_front bytes _ text rest (sym left.2 ∙ come.2) long

@@ -1,5 +1,7 @@
 pub mod AnswerLemmas
 pub mod BodyLemmas
+pub mod ChunkLemmas
+pub mod ChunkedLemmas
 pub mod FieldLemmas
 pub mod FoundLemmas
 pub mod HeadLemmas

@@ -1,5 +1,6 @@
 pub mod Answer
 pub mod Body
+pub mod Chunked
 pub mod Fields
 pub mod Head
 pub mod Inbox

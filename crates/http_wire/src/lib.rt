@@ -4,6 +4,7 @@
 
 mod answer;
 mod body;
+mod chunked;
 mod fields;
 mod head;
 mod inbox;
@@ -13,6 +14,7 @@ mod response;
 
 pub use answer::{Allow, AnswerHead, ContentRange, Location, Made, put_head};
 pub use body::{BodyRead, body_of, read_length};
+pub use chunked::read_chunked;
 pub use fields::{Found, Header};
 pub use head::{Head, read_head};
 pub use inbox::{Filled, Inbox};

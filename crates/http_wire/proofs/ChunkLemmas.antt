@@ -7,7 +7,8 @@ use Rattle.httparse.specs.Ascii.{crlf_bytes}
 use Rattle.httparse.specs.Grammar.{ChunkLine, print_chunk_line, chunk_size, ReadsChunkLine, Field, IsField, LineEnd, crlf, lf, print_end, print_field, print_section, ReadsSection, HasNoSection, NeverHasSection}
 use Rattle.httparse.specs.Spans.{SectionOverflows}
 use Rattle.http_wire.specs.Moves.{Moves}
-use Rattle.http_wire.specs.Chunked.{SpellsLine, HasNoEnd, MayBecomeEnd, HasNoTrailers, NeverHasTrailers, IsLine, IsChunk, AreChunks, Chunk, print_chunk, chunks_text, chunks_content, capped, Follows, IsCutEnd, IsLineAnd, IsTooLarge, IsBadBody, IsCutBody, ReadsEnd, ReadsContent, ReadsChunk, ReadsTrailers, ReadsChunked}
+use Rattle.http_wire.specs.Body.{capped}
+use Rattle.http_wire.specs.Chunked.{SpellsLine, HasNoEnd, MayBecomeEnd, HasNoTrailers, NeverHasTrailers, IsLine, IsChunk, AreChunks, Chunk, print_chunk, chunks_text, chunks_content, Follows, IsCutEnd, IsLineAnd, IsTooLarge, IsBadBody, IsCutBody, ReadsEnd, ReadsContent, ReadsChunk, ReadsTrailers, ReadsChunked}
 use Rattle.http_wire.specs.declared.body.BodyRead.{BodyRead}
 use Rattle.http_wire.specs.declared.body.BodyRead.TheVariants as body
 use Rattle.http_wire.specs.declared.chunked.ChunkSize.{ChunkSize}

@@ -8,11 +8,11 @@ use Rattle.httparse.specs.Ascii.{crlf_bytes}
 use Rattle.httparse.specs.Grammar.{crlf, IsField, ChunkLine, print_chunk_line, chunk_size, ReadsChunkLine, HasNoChunkLine, NeverHasChunkLine, MayBecomeChunkLine, Field, LineEnd, print_extension, print_section, print_field, print_end, ReadsSection, MayBecomeSection}
 use Rattle.httparse.proofs.ChunkLemmas.{chunk_line_unique}
 use Rattle.http_wire.specs.Moves.{Moves, IsToCome}
-use Rattle.http_wire.specs.Chunked.{SpellsLine, SpellsEnd, SpellsTrailers, HasNoEnd, MayBecomeEnd, NeverHasEnd, HasNoTrailers, NeverHasTrailers, Chunk, IsLine, IsLastLine, IsChunk, AreChunks, print_chunk, chunks_text, chunks_content, IsChunked, Follows, IsBadLine, IsBadEnd, AreBadTrailers, IsCutLine, IsCutEnd, AreCutTrailers, IsLineAnd, IsBadChunk, IsCutChunk, IsBadBody, IsCutBody, ReadsChunked, FindsChunked, IsTooLargeOrFault}
+use Rattle.http_wire.specs.Chunked.{SpellsLine, SpellsEnd, SpellsTrailers, HasNoEnd, MayBecomeEnd, NeverHasEnd, HasNoTrailers, NeverHasTrailers, Chunk, IsLine, IsLastLine, IsChunk, AreChunks, print_chunk, chunks_text, chunks_content, IsChunked, Follows, IsBadLine, IsBadEnd, AreBadTrailers, IsCutLine, IsCutEnd, AreCutTrailers, IsLineAnd, IsBadChunk, IsCutChunk, IsBadBody, IsCutBody, ReadsChunked, FindsChunked}
 use Rattle.http_wire.specs.declared.chunked.ChunkSize.{ChunkSize}
 use Rattle.http_wire.specs.declared.chunked.ChunkEnd.{ChunkEnd}
 use Rattle.http_wire.specs.declared.chunked.Trailers.{Trailers}
-use Rattle.http_wire.specs.Body.{IsBodyOrFault}
+use Rattle.http_wire.specs.Body.{IsBodyOrFault, IsTooLargeOrFault}
 use Rattle.http_wire.specs.declared.body.BodyRead.{BodyRead}
 use Rattle.http_wire.specs.declared.body.BodyRead.TheVariants as body
 use Rattle.http_wire.specs.declared.limits.TheConstants.{HEAD_MAX}

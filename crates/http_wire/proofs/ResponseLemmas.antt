@@ -54,13 +54,13 @@ refused bytes error.Token invalid many = inl (invalid (λ p. cc))
 refused bytes error.Version invalid many = inl (invalid (λ p. cc))
 refused bytes error.TooManyHeaders invalid many = inr (many_feeds bytes (many refl))
 
-abbrev response_parts : ℕ → ℕ → List (List ℕ × List ℕ) → ResponseParts
-response_parts status minor headers = record { status = status; minor = minor; headers = headers }
+abbrev response_parts : ℕ → ℕ → ℕ → List (List ℕ × List ℕ) → ResponseParts
+response_parts size status minor headers = record { size = size; status = status; minor = minor; headers = headers }
 
-same_parts : (status status' minor minor' : ℕ) (headers headers' : List (List ℕ × List ℕ)) → status ≡ status' → minor ≡ minor' → headers ≡ headers'
-    → response_parts status minor headers ≡ response_parts status' minor' headers'
-same_parts status status' minor minor' headers headers' a b c =
-    ap (λ x. response_parts x minor headers) a ∙ ap (λ x. response_parts status' x headers) b ∙ ap (response_parts status' minor') c
+same_parts : (size size' status status' minor minor' : ℕ) (headers headers' : List (List ℕ × List ℕ)) → size ≡ size' → status ≡ status' → minor ≡ minor' → headers ≡ headers'
+    → response_parts size status minor headers ≡ response_parts size' status' minor' headers'
+same_parts size size' status status' minor minor' headers headers' a b c d =
+    ap (λ x. response_parts x status minor headers) a ∙ ap (λ x. response_parts size' x minor headers) b ∙ ap (λ x. response_parts size' status' x headers) c ∙ ap (response_parts size' status' minor') d
 
 -- the copy of a head that was found spells it
 pub spells_found : (bytes : List ℕ) (spans : List HeaderSpan) (found : ResponseSpans) (head : ResponseHead)
@@ -73,7 +73,7 @@ spells_found bytes spans found head at within few short =
       head = head;
       reads = (at.reads.0, is ∙ sym (append-nil (print_response head)));
       limits = (omega (arith, length-take found.len bytes, short), few);
-      parts_are = same_parts _ _ _ _ _ _ at.code at.version (headers-take found.len bytes (take found.headers spans) within.section.headers_fit ∙ at.fields);
+      parts_are = same_parts _ _ _ _ _ _ _ _ (ap length is) at.code at.version (headers-take found.len bytes (take found.headers spans) within.section.headers_fit ∙ at.fields);
     }
 
 pub long_found : (bytes : List ℕ) (spans : List HeaderSpan) (found : ResponseSpans) (head : ResponseHead)

@@ -1,5 +1,5 @@
 -- Bodies of requests (RFC 9112, section 6).
-use Rattle.std.specs.Prelude.{◌≡◌, ℕ, ◌+◌, ◌<◌, ◌≤◌, List, [], ◌∷◌, ◌++◌, length, take, drop, min, None, Some, codes}
+use Rattle.std.specs.Prelude.{◌≡◌, ℕ, ◌+◌, ◌<◌, ◌≤◌, List, [], ◌∷◌, ◌++◌, ◌-◌, ◌^◌, length, take, drop, min, None, Some, codes}
 use Rattle.std.specs.declared.option.Option.{Option}
 use Rattle.std.specs.Io.KnownBytes.{IsAtEnd, Keeps}
 use Rattle.edge_base.specs.Causes.{Rose}
@@ -97,6 +97,38 @@ abbrev pub FindsBody : ℕ → Option (List ℕ) → List ℕ → Framing → Bo
 FindsBody limit old before framing.Coded result = Unit {0}
 FindsBody limit old before framing.BadLength result = Unit {0}
 FindsBody limit old before (framing.Length count) result = count ≤ limit → FindsLength count old before result
+
+-- a number of bytes, where one above 2^64 - 1 counts as that
+abbrev pub capped : ℕ → ℕ
+capped n = min n (2 ^ 64 - 1)
+
+-- All bytes up to the source's end were taken; or as many as the limit allows, and more came; or the source failed, or no
+-- memory was found, after some.
+abbrev pub ReadsToEnd : ℕ → Option (List ℕ) → Option (List ℕ) → List ℕ → List ℕ → BodyRead → Type 0
+ReadsToEnd limit old new before after (body.Body text) =
+    Moves old new before after text × IsAtEnd new × (after ≡ []) × (length text ≤ limit)
+ReadsToEnd limit old new before after (body.TooLarge len) =
+    (bytes : List ℕ) × Moves old new before after bytes × (length bytes ≡ limit) × (0 < length after) × (len ≡ capped (limit + 1))
+ReadsToEnd limit old new before after body.ReadFault = (bytes : List ℕ) × Moves old new before after bytes
+ReadsToEnd limit old new before after body.Memory = (bytes : List ℕ) × Moves old new before after bytes
+ReadsToEnd limit old new before after body.Coded = ⊥
+ReadsToEnd limit old new before after body.BadLength = ⊥
+ReadsToEnd limit old new before after (body.CutShort taken) = ⊥
+
+-- the answer is that the body is too large, or the source failed, or no memory was found
+abbrev pub IsTooLargeOrFault : BodyRead → Type 0
+IsTooLargeOrFault (body.TooLarge len) = Unit {0}
+IsTooLargeOrFault body.ReadFault = Unit {0}
+IsTooLargeOrFault body.Memory = Unit {0}
+IsTooLargeOrFault (body.Body content) = ⊥
+IsTooLargeOrFault body.Coded = ⊥
+IsTooLargeOrFault body.BadLength = ⊥
+IsTooLargeOrFault (body.CutShort taken) = ⊥
+
+-- all that is to come is the answer, or that it is above the limit
+abbrev pub FindsToEnd : ℕ → Option (List ℕ) → List ℕ → BodyRead → Type 0
+FindsToEnd limit old before result = (text : List ℕ) → IsToCome old before text
+    → (length text ≤ limit → IsBodyOrFault text result) × (limit < length text → IsTooLargeOrFault result)
 
 -- the count of faults did not fall; it rose where the source failed, and is the same where it did not
 pub record HasBodyCause (before now : ℕ) (result : BodyRead) : Type 0 where

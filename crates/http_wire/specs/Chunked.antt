@@ -8,7 +8,7 @@ use Rattle.httparse.specs.Grammar.{ChunkLine, IsChunkLine, chunk_size, print_chu
 use Rattle.edge_base.specs.Causes.{Rose}
 use Rattle.http_wire.specs.Moves.{Moves, IsToCome}
 use Rattle.http_wire.specs.Reading.{IsHopeless}
-use Rattle.http_wire.specs.Body.{IsBodyOrFault}
+use Rattle.http_wire.specs.Body.{IsBodyOrFault, IsTooLargeOrFault, capped}
 use Rattle.http_wire.specs.declared.body.BodyRead.{BodyRead}
 use Rattle.http_wire.specs.declared.body.BodyRead.TheVariants as body
 use Rattle.http_wire.specs.declared.chunked.ChunkSize.{ChunkSize}
@@ -100,10 +100,6 @@ pub record IsChunked (bytes content : List ℕ) : Type 0 where
   pub short : length (print_section fields last) ≤ HEAD_MAX
   pub text : bytes ≡ chunks_text chunks ++ (print_chunk_line line ++ print_section fields last)
   pub content_is : content ≡ chunks_content chunks
-
--- a number of bytes, where one above 2^64 - 1 counts as that
-abbrev pub capped : ℕ → ℕ
-capped n = min n (2 ^ 64 - 1)
 
 -- no line, no end or no trailers can come
 abbrev pub IsBadLine : List ℕ → Type 0
@@ -243,16 +239,6 @@ pub record HasChunkCause (before now : ℕ) (result : ChunkRead) : Type 0 where
   pub later : before ≤ now
   pub failed : result ≡ chunk.ReadFault → Rose before now
   pub answered : (result ≡ chunk.ReadFault → ⊥) → now ≡ before
-
--- the answer is that the body is too large, or the source failed, or no memory was found
-abbrev pub IsTooLargeOrFault : BodyRead → Type 0
-IsTooLargeOrFault (body.TooLarge len) = Unit {0}
-IsTooLargeOrFault body.ReadFault = Unit {0}
-IsTooLargeOrFault body.Memory = Unit {0}
-IsTooLargeOrFault (body.Body content) = ⊥
-IsTooLargeOrFault body.Coded = ⊥
-IsTooLargeOrFault body.BadLength = ⊥
-IsTooLargeOrFault (body.CutShort taken) = ⊥
 
 -- where the bytes to come begin with a chunked body, its content is the answer, or that this is above the limit
 abbrev pub FindsChunked : ℕ → Option (List ℕ) → List ℕ → BodyRead → Type 0

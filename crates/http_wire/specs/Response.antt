@@ -1,5 +1,5 @@
 -- Heads of responses (RFC 9112, sections 2 to 5).
-use Rattle.std.specs.Prelude.{◌≡◌, ◌⊎◌, ℕ, ◌≤◌, List, [], map}
+use Rattle.std.specs.Prelude.{◌≡◌, ◌⊎◌, ℕ, ◌≤◌, List, [], length, map}
 use Rattle.httparse.specs.Grammar.{ResponseHead, print_response, ReadsResponse, NeverHasResponse, status_code}
 use Rattle.httparse.specs.Spans.{name_and_value, header_bytes}
 use Rattle.httparse.specs.declared.spans.HeaderSpan.{HeaderSpan}
@@ -7,8 +7,9 @@ use Rattle.httparse.specs.declared.spans.ResponseSpans.{ResponseSpans}
 use Rattle.http_wire.specs.Limits.{feeds, IsWithinLimits}
 use Rattle.http_wire.specs.declared.limits.TheConstants.{FEEDS_MAX}
 
--- the status code, the minor version, and the name and value of each header field
+-- how many bytes the head has, the status code, the minor version, and the name and value of each header field
 pub record ResponseParts : Type 0 where
+  pub size : ℕ
   pub status : ℕ
   pub minor : ℕ
   pub headers : List (List ℕ × List ℕ)
@@ -16,6 +17,7 @@ pub record ResponseParts : Type 0 where
 -- what a head by the grammar says, where a value has no white space around it
 abbrev pub response_parts_of : ResponseHead → ResponseParts
 response_parts_of head = record {
+  size = length (print_response head);
   status = status_code head;
   minor = head.minor;
   headers = map name_and_value head.fields;
@@ -40,6 +42,7 @@ IsHopelessResponse bytes = NeverHasResponse bytes ⊎ (FEEDS_MAX ≤ feeds bytes
 -- what stands at these places of the bytes
 abbrev pub response_parts_at : List ℕ → ResponseSpans → List HeaderSpan → ResponseParts
 response_parts_at text found spans = record {
+  size = length text;
   status = found.code;
   minor = found.version;
   headers = map (header_bytes text) spans;

@@ -52,6 +52,7 @@ pub struct Location<'a> {
 }
 
 /// The head of an answer.
+#[derive(Drop)]
 pub struct AnswerHead<'a> {
     /// The status: 200, 201, 204, 206, 400, 403, 404, 405, 410, 411, 413, 416, 502 or 503.
     pub status: u16,

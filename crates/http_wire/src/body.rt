@@ -2,7 +2,7 @@
 
 ghost use Rattle.std.specs.Prelude.{◌≡◌, codes, IfOk, OnErr};
 ghost use Rattle.http_wire.specs.Fields.{values_of};
-ghost use Rattle.http_wire.specs.Body.{MovesPiece, length_framing, framing_of, ReadsBody, FindsBody, ReadsLength, FindsLength, ReadsPiece, HasBodyCause, HasPieceCause};
+ghost use Rattle.http_wire.specs.Body.{MovesPiece, length_framing, framing_of, ReadsBody, FindsBody, ReadsLength, FindsLength, ReadsToEnd, FindsToEnd, ReadsPiece, HasBodyCause, HasPieceCause};
 
 use crate::fields::Found;
 use crate::head::Head;
@@ -122,6 +122,51 @@ pub fn read_length<S: Source>(
         },
         PieceRead::ReadFault => BodyRead::ReadFault,
         PieceRead::Memory => BodyRead::Memory,
+    }
+}
+
+/// Reads a body of at most `limit` bytes that reaches to the end of the source (RFC 9112, section 6.3). `TooLarge` comes
+/// exactly where more come, with `limit + 1`, or 2^64 - 1 where that is more.
+pub fn read_to_end<S: Source>(
+    alloc: Global,
+    source: &mut S,
+    inbox: &mut Inbox,
+    limit: u64,
+) -> BodyRead
+    ensures bytes { ReadsToEnd limit (S.left source.old) (S.left source.new) inbox.old inbox.new result }
+    ensures found { FindsToEnd limit (S.left source.old) inbox.old result }
+    ensures cause { HasBodyCause (S.faults source.old) (S.faults source.new) result }
+{
+    gather_to_end(alloc, source, inbox, limit)
+}
+
+fn gather_to_end<S: Source>(
+    alloc: Global,
+    source: &mut S,
+    inbox: &mut Inbox,
+    limit: u64,
+) -> BodyRead
+    ensures bytes { ReadsToEnd limit (S.left source.old) (S.left source.new) inbox.old inbox.new result }
+    ensures cause { HasBodyCause (S.faults source.old) (S.faults source.new) result }
+{
+    let mut text = Vec::new(alloc);
+    'pieces: loop {
+        let left = limit - text.len() as u64;
+        match move_piece(inbox, left, &mut text) {
+            Ok(_) => {}
+            Err(_) => return BodyRead::Memory,
+        }
+        if inbox.bytes().len() > 0 {
+            return BodyRead::TooLarge {
+                len: limit.saturating_add(1),
+            };
+        }
+        match inbox.fill(source) {
+            Filled::Some => {}
+            Filled::End => return BodyRead::Body(Text::from_vec(text)),
+            Filled::Failed => return BodyRead::ReadFault,
+            Filled::Memory => return BodyRead::Memory,
+        }
     }
 }
 

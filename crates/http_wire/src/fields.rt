@@ -67,6 +67,13 @@ impl Fields {
         span.of(&self.text)
     }
 
+    // how many bytes the head has
+    pub(crate) fn size(&self) -> usize
+        ensures { result ≡ length self.now.text }
+    {
+        self.text.len()
+    }
+
     pub(crate) fn len(&self) -> usize
         ensures { result ≡ length self.now.headers }
     {

@@ -11,9 +11,11 @@ mod inbox;
 mod limits;
 mod reading;
 mod response;
+#[cfg(test)]
+mod tests;
 
 pub use answer::{Allow, AnswerHead, ContentRange, Location, Made, put_head};
-pub use body::{BodyRead, body_of, read_length};
+pub use body::{BodyRead, body_of, read_length, read_to_end};
 pub use chunked::read_chunked;
 pub use fields::{Found, Header};
 pub use head::{Head, read_head};

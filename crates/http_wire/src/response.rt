@@ -27,14 +27,27 @@ pub struct ResponseHead {
 }
 
 impl Model for ResponseHead {
+    ghost use Rattle.std.specs.Prelude.{length};
     ghost use Rattle.http_wire.specs.Response.{ResponseParts};
 
     ghost Value = { ResponseParts };
 
-    ghost view = { λ h. record { status = h.status; minor = h.minor; headers = h.fields.headers } };
+    ghost view = { λ h. record {
+      size = length h.fields.text;
+      status = h.status;
+      minor = h.minor;
+      headers = h.fields.headers;
+    } };
 }
 
 impl ResponseHead {
+    /// How many bytes the head has.
+    pub fn size(&self) -> usize
+        ensures { result ≡ self.now.size }
+    {
+        self.fields.size()
+    }
+
     /// The status code, of three digits.
     pub fn status(&self) -> u16
         ensures { result ≡ self.now.status }

@@ -1,6 +1,7 @@
 use Rattle.std.proofs.Common.{◌≡◌, ℕ, ◌-◌, List, [], length}
 use Rattle.http_wire.specs.Moves.{Moves}
-use Rattle.http_wire.specs.Chunked.{Follows, capped}
+use Rattle.http_wire.specs.Body.{capped}
+use Rattle.http_wire.specs.Chunked.{Follows}
 use Rattle.http_wire.proofs.chunked.gather_chunks.Given as goal
 
 abbrev pub invariant-chunks : goal.invariant-chunks

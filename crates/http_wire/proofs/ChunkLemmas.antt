@@ -1,21 +1,20 @@
 -- Chunk lines, ends of chunks and trailers.
-use Rattle.std.proofs.Common.{◌≡◌, ◌≢◌, ℕ, zero, suc, ◌+◌, ◌-◌, ◌*◌, ◌<◌, ◌≤◌, List, [], ◌∷◌, ◌++◌, length, take, drop, min, get_or, refl, sym, ◌∙◌, ap, subst, arith, ◌⊎◌, inl, inr, Option, None, Some, append_assoc, append-nil, length-append}
+use Rattle.std.proofs.Common.{◌≡◌, ℕ, zero, suc, ◌+◌, ◌-◌, ◌*◌, ◌<◌, ◌≤◌, List, [], ◌∷◌, ◌++◌, length, get_or, refl, sym, ◌∙◌, ap, subst, arith, ◌⊎◌, inl, inr, Option, append_assoc, append-nil, length-append}
 use Rattle.std.specs.List.{All, flat_map}
 use Rattle.std.specs.Io.KnownBytes.{IsAtEnd}
 use Rattle.std.proofs.lemmas.Grind.{flat_map-append}
 use Rattle.httparse.specs.Ascii.{crlf_bytes}
-use Rattle.httparse.specs.Grammar.{ChunkLine, print_chunk_line, chunk_size, ReadsChunkLine, Field, IsField, LineEnd, crlf, lf, print_end, print_field, print_section, ReadsSection, HasNoSection, NeverHasSection}
+use Rattle.httparse.specs.Grammar.{print_chunk_line, chunk_size, Field, IsField, LineEnd, crlf, lf, print_end, print_field, print_section, NeverHasSection}
 use Rattle.httparse.specs.Spans.{SectionOverflows}
 use Rattle.http_wire.specs.Moves.{Moves}
 use Rattle.http_wire.specs.Body.{capped}
-use Rattle.http_wire.specs.Chunked.{SpellsLine, HasNoEnd, MayBecomeEnd, HasNoTrailers, NeverHasTrailers, IsLine, IsChunk, AreChunks, Chunk, print_chunk, chunks_text, chunks_content, Follows, IsCutEnd, IsLineAnd, IsTooLarge, IsBadBody, IsCutBody, ReadsEnd, ReadsContent, ReadsChunk, ReadsTrailers, ReadsChunked}
+use Rattle.http_wire.specs.Chunked.{SpellsLine, HasNoEnd, MayBecomeEnd, HasNoTrailers, NeverHasTrailers, IsLine, IsChunk, AreChunks, Chunk, print_chunk, chunks_text, chunks_content, Follows, IsCutEnd, IsTooLarge, IsBadBody, IsCutBody, ReadsEnd, ReadsContent, ReadsChunk, ReadsTrailers, ReadsChunked}
 use Rattle.http_wire.specs.declared.body.BodyRead.{BodyRead}
 use Rattle.http_wire.specs.declared.body.BodyRead.TheVariants as body
 use Rattle.http_wire.specs.declared.chunked.ChunkSize.{ChunkSize}
 use Rattle.http_wire.specs.declared.chunked.ChunkRead.{ChunkRead}
 use Rattle.http_wire.specs.declared.chunked.ChunkRead.TheVariants as chunk
 use Rattle.http_wire.specs.declared.chunked.TheConstants.{TRAILERS_MAX}
-use Rattle.http_wire.specs.declared.limits.TheConstants.{HEAD_MAX}
 use Rattle.http_wire.proofs.MoveLemmas.{moves_then}
 
 pub end_empty : (bytes : List ℕ) → length bytes ≡ 0 → HasNoEnd bytes × MayBecomeEnd bytes

@@ -1,17 +1,14 @@
 -- Where the bytes to come begin with a chunked body, a reading answers it.
-use Rattle.std.proofs.Common.{◌≡◌, ℕ, ◌+◌, ◌<◌, ◌≤◌, List, [], ◌∷◌, ◌++◌, length, take, drop, refl, sym, ◌∙◌, ap, subst, arith, ◌⊎◌, inl, inr, Option, None, Some, append_assoc, append-nil, length-append}
+use Rattle.std.proofs.Common.{◌≡◌, ℕ, ◌+◌, ◌<◌, ◌≤◌, List, [], ◌∷◌, ◌++◌, length, refl, sym, ◌∙◌, ap, subst, arith, ◌⊎◌, inl, inr, Option, Some, append_assoc, append-nil, length-append}
 use Rattle.std.specs.List.{All, flat_map}
 use Rattle.std.specs.Io.KnownBytes.{IsAtEnd}
 use Rattle.std.proofs.lemmas.List.{append_cancel_left}
 use Rattle.std.proofs.lemmas.Grind.{flat_map-append}
 use Rattle.httparse.specs.Ascii.{crlf_bytes}
-use Rattle.httparse.specs.Grammar.{crlf, IsField, ChunkLine, print_chunk_line, chunk_size, ReadsChunkLine, HasNoChunkLine, NeverHasChunkLine, MayBecomeChunkLine, Field, LineEnd, print_extension, print_section, print_field, print_end, ReadsSection, MayBecomeSection}
+use Rattle.httparse.specs.Grammar.{crlf, IsField, ChunkLine, print_chunk_line, chunk_size, Field, LineEnd, print_extension, print_section, print_field, print_end}
 use Rattle.httparse.proofs.ChunkLemmas.{chunk_line_unique}
 use Rattle.http_wire.specs.Moves.{Moves, IsToCome}
-use Rattle.http_wire.specs.Chunked.{SpellsLine, SpellsEnd, SpellsTrailers, HasNoEnd, MayBecomeEnd, NeverHasEnd, HasNoTrailers, NeverHasTrailers, Chunk, IsLine, IsLastLine, IsChunk, AreChunks, print_chunk, chunks_text, chunks_content, IsChunked, Follows, IsBadLine, IsBadEnd, AreBadTrailers, IsCutLine, IsCutEnd, AreCutTrailers, IsLineAnd, IsBadChunk, IsCutChunk, IsBadBody, IsCutBody, ReadsChunked, FindsChunked}
-use Rattle.http_wire.specs.declared.chunked.ChunkSize.{ChunkSize}
-use Rattle.http_wire.specs.declared.chunked.ChunkEnd.{ChunkEnd}
-use Rattle.http_wire.specs.declared.chunked.Trailers.{Trailers}
+use Rattle.http_wire.specs.Chunked.{Chunk, IsLine, IsLastLine, IsChunk, AreChunks, print_chunk, chunks_text, chunks_content, IsChunked, Follows, IsBadLine, IsBadEnd, AreBadTrailers, IsCutLine, IsCutEnd, AreCutTrailers, IsBadChunk, IsCutChunk, IsBadBody, IsCutBody, ReadsChunked, FindsChunked}
 use Rattle.http_wire.specs.Body.{IsBodyOrFault, IsTooLargeOrFault}
 use Rattle.http_wire.specs.declared.body.BodyRead.{BodyRead}
 use Rattle.http_wire.specs.declared.body.BodyRead.TheVariants as body

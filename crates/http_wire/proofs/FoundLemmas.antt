@@ -1,12 +1,12 @@
 -- Where the bytes to come begin with a head, a reading answers it.
-use Rattle.std.proofs.Common.{◌≡◌, ℕ, ◌+◌, ◌<◌, ◌≤◌, List, [], ◌∷◌, ◌++◌, length, take, drop, refl, sym, ◌∙◌, ap, subst, arith, ◌⊎◌, inl, inr, Option, None, Some, append_assoc, append-nil, length-append}
+use Rattle.std.proofs.Common.{◌≡◌, ℕ, ◌<◌, ◌≤◌, List, [], ◌++◌, length, take, drop, refl, sym, ◌∙◌, ap, subst, arith, inl, inr, Option, None, Some, append_assoc, append-nil, length-append}
 use Rattle.std.specs.Io.KnownBytes.{Consumes, IsAtEnd}
 use Rattle.std.proofs.Math.Seq.{take-append_seam}
 use Rattle.std.proofs.lemmas.List.{take-append-drop, take-append-le}
 use Rattle.std.proofs.lemmas.Bool.{cases_lt}
 use Rattle.http_wire.specs.Limits.{feeds, IsWithinLimits}
-use Rattle.http_wire.specs.Moves.{Moves, IsToCome}
-use Rattle.http_wire.specs.Reading.{ReadsHead, FindsHead, IsHeadOrFault, IsHopeless}
+use Rattle.http_wire.specs.Moves.{Moves}
+use Rattle.http_wire.specs.Reading.{ReadsHead, FindsHead, IsHopeless}
 use Rattle.http_wire.specs.declared.limits.TheConstants.{HEAD_MAX, FEEDS_MAX}
 use Rattle.http_wire.specs.declared.reading.HeadRead.{HeadRead}
 use Rattle.http_wire.specs.declared.reading.HeadRead.TheVariants as read

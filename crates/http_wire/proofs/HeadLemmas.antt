@@ -1,16 +1,15 @@
 -- Why bytes have no head of a request within the limits.
-use Rattle.std.proofs.Common.{◌≡◌, ◌≢◌, ℕ, ◌+◌, ◌-◌, ◌<◌, ◌≤◌, List, [], ◌∷◌, ◌++◌, length, take, drop, map, refl, sym, ◌∙◌, ap, subst, arith, ◌⊎◌, inl, inr, Result, Ok, Err, append-nil, zero, suc}
+use Rattle.std.proofs.Common.{◌≡◌, ◌≢◌, ℕ, ◌+◌, ◌-◌, ◌<◌, ◌≤◌, List, [], ◌∷◌, ◌++◌, length, take, drop, map, refl, sym, ◌∙◌, ap, subst, arith, inl, inr, append-nil, zero, suc}
 use Rattle.std.proofs.Math.Seq.{take-append_seam}
 use Rattle.std.proofs.lemmas.List.{take-take, drop-take, length-take}
-use Rattle.std.specs.List.{All, slice_range}
+use Rattle.std.specs.List.{All}
 use Rattle.httparse.specs.declared.Error.{Error}
 use Rattle.httparse.specs.declared.Error.TheVariants as error
-use Rattle.httparse.specs.declared.Status.{Status}
 use Rattle.httparse.specs.declared.spans.HeaderSpan.{HeaderSpan}
 use Rattle.httparse.specs.declared.spans.RequestSpans.{RequestSpans}
 use Rattle.httparse.specs.declared.spans.Span.{Span}
-use Rattle.httparse.specs.Grammar.{RequestHead, print_request, print_end, lf, print_blank, print_version, ReadsRequest, NeverHasRequest, HasNoRequest}
-use Rattle.httparse.specs.Spans.{IsWithin, IsHeaderWithin, span_bytes, header_bytes, name_and_value, IsRequestAt, IsRequestWithin, RequestOverflows, RequestExceeds}
+use Rattle.httparse.specs.Grammar.{RequestHead, print_request, print_end, lf, ReadsRequest, NeverHasRequest}
+use Rattle.httparse.specs.Spans.{IsWithin, IsHeaderWithin, span_bytes, header_bytes, IsRequestAt, IsRequestWithin, RequestOverflows, RequestExceeds}
 use Rattle.httparse.proofs.GrammarLemmas.{request_unique}
 use Rattle.http_wire.specs.Limits.{feeds, IsWithinLimits}
 use Rattle.http_wire.specs.Head.{HeadParts, Spells, HasNoHead, IsHopelessHead, parts_of, parts_at}

@@ -1,16 +1,13 @@
 -- Why bytes have no head of a response within the limits.
-use Rattle.std.proofs.Common.{◌≡◌, ◌≢◌, ℕ, ◌+◌, ◌-◌, ◌<◌, ◌≤◌, List, [], ◌∷◌, ◌++◌, length, take, drop, map, refl, sym, ◌∙◌, ap, subst, arith, ◌⊎◌, inl, inr, Result, Ok, Err, append-nil, zero, suc}
+use Rattle.std.proofs.Common.{◌≡◌, ◌≢◌, ℕ, ◌+◌, ◌<◌, ◌≤◌, List, [], ◌++◌, length, take, drop, refl, sym, ◌∙◌, ap, subst, arith, inl, inr, append-nil}
 use Rattle.std.proofs.Math.Seq.{take-append_seam}
-use Rattle.std.proofs.lemmas.List.{take-take, drop-take, length-take}
-use Rattle.std.specs.List.{All, slice_range}
+use Rattle.std.proofs.lemmas.List.{length-take}
 use Rattle.httparse.specs.declared.Error.{Error}
 use Rattle.httparse.specs.declared.Error.TheVariants as error
-use Rattle.httparse.specs.declared.Status.{Status}
 use Rattle.httparse.specs.declared.spans.HeaderSpan.{HeaderSpan}
 use Rattle.httparse.specs.declared.spans.ResponseSpans.{ResponseSpans}
-use Rattle.httparse.specs.declared.spans.Span.{Span}
-use Rattle.httparse.specs.Grammar.{ResponseHead, print_response, print_end, lf, print_blank, print_version, ReadsResponse, NeverHasResponse, HasNoResponse}
-use Rattle.httparse.specs.Spans.{IsWithin, IsHeaderWithin, span_bytes, header_bytes, name_and_value, IsResponseAt, IsResponseWithin, ResponseOverflows, ResponseExceeds}
+use Rattle.httparse.specs.Grammar.{ResponseHead, print_response, print_end, lf, ReadsResponse, NeverHasResponse}
+use Rattle.httparse.specs.Spans.{IsResponseAt, IsResponseWithin, ResponseOverflows, ResponseExceeds}
 use Rattle.httparse.proofs.GrammarLemmas.{response_unique}
 use Rattle.http_wire.specs.Limits.{feeds, IsWithinLimits}
 use Rattle.http_wire.specs.Response.{ResponseParts, SpellsResponse, HasNoResponseHead, IsHopelessResponse, response_parts_of, response_parts_at}

@@ -84,12 +84,12 @@ fn heads(rt: HostRuntime) -> Result<(), Fail> {
     for (bytes, want) in cases {
         for gives in [[].as_slice(), ones.as_slice()] {
             let told = head_told(alloc, bytes.as_bytes(), gives)?;
-            let front = if want.len() < told.len() && want == "bad" {
-                &told[..3]
+            let same = if want == "bad" {
+                told.starts_with(b"bad")
             } else {
-                told.as_slice()
+                told.as_slice() == want.as_bytes()
             };
-            assert_eq!(rt; front, want.as_bytes(), "{bytes}");
+            assert!(rt; same, "{bytes}");
         }
     }
     Ok(())

@@ -1,4 +1,4 @@
-use Rattle.std.proofs.Common.{arith, decimal}
+use Rattle.std.proofs.Common.{decimal}
 use Rattle.http_wire.proofs.AnswerLemmas.{puts_fits, short_number}
 use Rattle.http_wire.proofs.answer.put_number.Goals as goal
 

@@ -1,4 +1,3 @@
-use Rattle.std.proofs.Common.{arith}
 use Rattle.byte_range.specs.Put.{range_text}
 use Rattle.http_wire.proofs.AnswerLemmas.{puts_fits, short_range}
 use Rattle.http_wire.proofs.answer.put_part.Goals as goal

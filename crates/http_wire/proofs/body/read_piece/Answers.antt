@@ -1,5 +1,5 @@
-use Rattle.std.proofs.Common.{ap, arith, length, ◌∙◌, length-append}
-use Rattle.http_wire.proofs.BodyLemmas.{passes_moved, passes_filled, moved_length, moved_rest}
+use Rattle.std.proofs.Common.{arith, ◌∙◌}
+use Rattle.http_wire.proofs.BodyLemmas.{passes_moved, passes_filled, moved_length}
 use Rattle.http_wire.proofs.body.read_piece.Goals as goal
 
 pub pieces-preserved : goal.pieces-preserved

@@ -1,4 +1,4 @@
-use Rattle.std.proofs.Common.{sym, ◌∙◌}
+use Rattle.std.proofs.Common.{◌∙◌}
 use Rattle.http_wire.proofs.ChunkLemmas.{chunks_more, chunks_end, chunks_bad, chunks_large, chunks_cut}
 use Rattle.http_wire.proofs.MoveLemmas.{moves_then}
 use Rattle.http_wire.proofs.chunked.gather_chunks.Goals as goal

@@ -1,4 +1,4 @@
-use Rattle.std.proofs.Common.{arith, ap, sym, ◌∙◌, Err, subst, inr, length, take}
+use Rattle.std.proofs.Common.{arith, ap, sym, Err, subst, inr, take}
 use Rattle.http_wire.specs.Response.{ResponseParts, SpellsResponse}
 use Rattle.http_wire.proofs.ResponseLemmas.{none_with_room, refused, spells_found, long_found}
 use Rattle.http_wire.proofs.response.try_head.Goals as goal

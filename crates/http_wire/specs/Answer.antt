@@ -23,7 +23,8 @@ line_end = codes "\r\n"
 -- reason phrases (RFC 9110, section 15)
 unfoldable pub phrase_of : ℕ → List ℕ
 phrase_of status =
-    if status == 200 then codes "OK" else if status == 201 then codes "Created" else if status == 204 then codes "No Content"
+    if status == 200 then codes "OK" else if status == 201 then codes "Created"
+    else if status == 204 then codes "No Content"
     else if status == 206 then codes "Partial Content" else if status == 400 then codes "Bad Request"
     else if status == 403 then codes "Forbidden" else if status == 404 then codes "Not Found"
     else if status == 405 then codes "Method Not Allowed" else if status == 410 then codes "Gone"
@@ -35,7 +36,8 @@ phrase_of status =
 abbrev pub is_answer_status : ℕ → Bool
 is_answer_status status =
     status == 200 || status == 201 || status == 204 || status == 206 || status == 400 || status == 403 || status == 404
-    || status == 405 || status == 410 || status == 411 || status == 413 || status == 416 || status == 502 || status == 503
+    || status == 405 || status == 410 || status == 411 || status == 413 || status == 416 || status == 502
+    || status == 503
 
 -- status-code: three digits (RFC 9112, section 4)
 abbrev pub three_digits : ℕ → List ℕ
@@ -101,10 +103,13 @@ unfoldable pub close_line : Bool → List ℕ
 close_line false = []
 close_line true = field_line (codes "Connection") (codes "close")
 
+abbrev pub place_text : Location → List ℕ
+place_text location = location_text location.host.now location.made location.number
+
 -- Location (RFC 9110, section 10.2.2)
 abbrev pub location_line : Option Location → List ℕ
 location_line None = []
-location_line (Some given) = field_line (codes "Location") (location_text given.host.now given.made given.number)
+location_line (Some given) = field_line (codes "Location") (place_text given)
 
 -- Content-Type of a name
 abbrev pub kind_line_of : Option (Bor (List ℕ)) → List ℕ

@@ -31,7 +31,8 @@ framing_in (coding ∷ codings) lengths = framing.Coded
 
 -- how the length of the body of a request is told
 abbrev pub framing_of : List (List ℕ × List ℕ) → Framing
-framing_of headers = framing_in (values_of (codes "transfer-encoding") headers) (values_of (codes "content-length") headers)
+framing_of headers =
+    framing_in (values_of (codes "transfer-encoding") headers) (values_of (codes "content-length") headers)
 
 -- these bytes were taken, and stand now behind the text
 pub record Passes (old new : Option (List ℕ)) (before after text longer bytes : List ℕ) : Type 0 where
@@ -49,16 +50,20 @@ abbrev pub ReadsPiece : ℕ → Option (List ℕ) → Option (List ℕ) → List
 ReadsPiece count old new before after text longer piece.Whole =
     (bytes : List ℕ) × Passes old new before after text longer bytes × (length bytes ≡ count)
 ReadsPiece count old new before after text longer piece.CutShort =
-    (bytes : List ℕ) × Passes old new before after text longer bytes × (length bytes < count) × IsAtEnd new × (after ≡ [])
-ReadsPiece count old new before after text longer piece.ReadFault = (bytes : List ℕ) × Passes old new before after text longer bytes
-ReadsPiece count old new before after text longer piece.Memory = (bytes : List ℕ) × Passes old new before after text longer bytes
+    (bytes : List ℕ) × Passes old new before after text longer bytes × (length bytes < count) × IsAtEnd new
+    × (after ≡ [])
+ReadsPiece count old new before after text longer piece.ReadFault = (bytes : List ℕ)
+    × Passes old new before after text longer bytes
+ReadsPiece count old new before after text longer piece.Memory = (bytes : List ℕ)
+    × Passes old new before after text longer bytes
 
 -- The body is so many bytes, which were taken; or the source ended after fewer, all of which were taken; or it failed,
 -- or no memory was found, after some.
 abbrev pub ReadsLength : ℕ → Option (List ℕ) → Option (List ℕ) → List ℕ → List ℕ → BodyRead → Type 0
 ReadsLength count old new before after (body.Body text) = Moves old new before after text × (length text ≡ count)
 ReadsLength count old new before after (body.CutShort taken) =
-    (bytes : List ℕ) × Moves old new before after bytes × (length bytes ≡ taken) × (taken < count) × IsAtEnd new × (after ≡ [])
+    (bytes : List ℕ) × Moves old new before after bytes × (length bytes ≡ taken) × (taken < count) × IsAtEnd new
+    × (after ≡ [])
 ReadsLength count old new before after body.ReadFault = (bytes : List ℕ) × Moves old new before after bytes
 ReadsLength count old new before after body.Memory = (bytes : List ℕ) × Moves old new before after bytes
 ReadsLength count old new before after body.Coded = ⊥
@@ -72,7 +77,8 @@ IsUntouched old new before after = Keeps old new × (after ≡ before)
 -- where nothing is announced wrong and the length is within the limit, so many bytes are read
 abbrev pub ReadsBody : ℕ → Option (List ℕ) → Option (List ℕ) → List ℕ → List ℕ → Framing → BodyRead → Type 0
 ReadsBody limit old new before after framing.Coded result = (result ≡ body.Coded) × IsUntouched old new before after
-ReadsBody limit old new before after framing.BadLength result = (result ≡ body.BadLength) × IsUntouched old new before after
+ReadsBody limit old new before after framing.BadLength result = (result ≡ body.BadLength)
+    × IsUntouched old new before after
 ReadsBody limit old new before after (framing.Length count) result =
     (limit < count → (result ≡ body.TooLarge count) × IsUntouched old new before after)
     × (count ≤ limit → ReadsLength count old new before after result)
@@ -90,7 +96,8 @@ IsBodyOrFault text (body.CutShort taken) = ⊥
 -- where so many bytes are to come, they are the answer
 abbrev pub FindsLength : ℕ → Option (List ℕ) → List ℕ → BodyRead → Type 0
 FindsLength count old before result =
-    (text : List ℕ) (rest : List ℕ) → length text ≡ count → IsToCome old before (text ++ rest) → IsBodyOrFault text result
+    (text : List ℕ) (rest : List ℕ) → length text ≡ count → IsToCome old before (text ++ rest)
+    → IsBodyOrFault text result
 
 -- where the body announced is within the limit and to come, it is the answer
 abbrev pub FindsBody : ℕ → Option (List ℕ) → List ℕ → Framing → BodyRead → Type 0
@@ -102,13 +109,15 @@ FindsBody limit old before (framing.Length count) result = count ≤ limit → F
 abbrev pub capped : ℕ → ℕ
 capped n = min n (2 ^ 64 - 1)
 
--- All bytes up to the source's end were taken; or as many as the limit allows, and more came; or the source failed, or no
+-- All bytes up to the source's end were taken; or as many as the limit allows, and more came; or the source failed,
+-- or no
 -- memory was found, after some.
 abbrev pub ReadsToEnd : ℕ → Option (List ℕ) → Option (List ℕ) → List ℕ → List ℕ → BodyRead → Type 0
 ReadsToEnd limit old new before after (body.Body text) =
     Moves old new before after text × IsAtEnd new × (after ≡ []) × (length text ≤ limit)
 ReadsToEnd limit old new before after (body.TooLarge len) =
-    (bytes : List ℕ) × Moves old new before after bytes × (length bytes ≡ limit) × (0 < length after) × (len ≡ capped (limit + 1))
+    (bytes : List ℕ) × Moves old new before after bytes × (length bytes ≡ limit) × (0 < length after)
+    × (len ≡ capped (limit + 1))
 ReadsToEnd limit old new before after body.ReadFault = (bytes : List ℕ) × Moves old new before after bytes
 ReadsToEnd limit old new before after body.Memory = (bytes : List ℕ) × Moves old new before after bytes
 ReadsToEnd limit old new before after body.Coded = ⊥

@@ -109,7 +109,8 @@ abbrev pub IsBadEnd : List ℕ → Type 0
 IsBadEnd bytes = HasNoEnd bytes × IsHopeless SpellsEnd HasNoEnd MayBecomeEnd NeverHasEnd bytes
 
 abbrev pub AreBadTrailers : List ℕ → Type 0
-AreBadTrailers bytes = HasNoTrailers bytes × IsHopeless SpellsTrailers HasNoTrailers MayBecomeSection NeverHasTrailers bytes
+AreBadTrailers bytes = HasNoTrailers bytes
+    × IsHopeless SpellsTrailers HasNoTrailers MayBecomeSection NeverHasTrailers bytes
 
 -- there is nothing of it, or a beginning
 abbrev pub IsCutLine : List ℕ → Type 0
@@ -130,7 +131,8 @@ pub record IsLineAnd (bytes : List ℕ) (line : ChunkLine) (content : List ℕ) 
 -- what follows the bytes is no chunk line, or no end of the chunk whose line and data they are
 abbrev pub IsBadChunk : List ℕ → List ℕ → Type 0
 IsBadChunk bytes after = ((bytes ≡ []) × IsBadLine after)
-    ⊎ ((line : ChunkLine) × (content : List ℕ) × IsLineAnd bytes line content × (length content ≡ chunk_size line) × IsBadEnd after)
+    ⊎ ((line : ChunkLine) × (content : List ℕ) × IsLineAnd bytes line content × (length content ≡ chunk_size line)
+    × IsBadEnd after)
 
 -- the bytes and what follows them end within a chunk
 abbrev pub IsCutChunk : List ℕ → List ℕ → Type 0
@@ -147,7 +149,8 @@ ReadsChunk limit old new before after text longer (chunk.Last taken) =
     (line : ChunkLine) × IsLastLine line × Moves old new before after (print_chunk_line line) × (longer ≡ text)
     × (taken ≡ length (print_chunk_line line))
 ReadsChunk limit old new before after text longer chunk.TooLarge =
-    (line : ChunkLine) × IsLine line × Moves old new before after (print_chunk_line line) × (limit < length text + chunk_size line)
+    (line : ChunkLine) × IsLine line × Moves old new before after (print_chunk_line line)
+    × (limit < length text + chunk_size line)
 ReadsChunk limit old new before after text longer chunk.BadLength =
     (bytes : List ℕ) × Moves old new before after bytes × IsBadChunk bytes after
 ReadsChunk limit old new before after text longer (chunk.CutShort taken) =
@@ -167,19 +170,22 @@ pub record Follows (limit : ℕ) (bytes rest content : List ℕ) : Type 0 where
 -- behind whole chunks a chunk, or the trailers, can't come
 abbrev pub IsBadBody : ℕ → List ℕ → List ℕ → Type 0
 IsBadBody limit bytes after = (rest : List ℕ) × (content : List ℕ) × Follows limit bytes rest content
-    × (IsBadChunk rest after ⊎ ((line : ChunkLine) × IsLastLine line × (rest ≡ print_chunk_line line) × AreBadTrailers after))
+    × (IsBadChunk rest after ⊎ ((line : ChunkLine) × IsLastLine line × (rest ≡ print_chunk_line line)
+    × AreBadTrailers after))
 
 -- behind whole chunks the bytes end within a chunk or the trailers
 abbrev pub IsCutBody : ℕ → List ℕ → List ℕ → Type 0
 IsCutBody limit bytes after = (rest : List ℕ) × (content : List ℕ) × Follows limit bytes rest content
-    × (IsCutChunk rest after ⊎ ((line : ChunkLine) × IsLastLine line × (rest ≡ print_chunk_line line) × AreCutTrailers after))
+    × (IsCutChunk rest after ⊎ ((line : ChunkLine) × IsLastLine line × (rest ≡ print_chunk_line line)
+    × AreCutTrailers after))
 
 -- behind whole chunks the line of another one announces more than the limit
 abbrev pub IsTooLarge : ℕ → List ℕ → Type 0
 IsTooLarge limit bytes = (line : ChunkLine) × (content : List ℕ) × IsLine line
     × Follows limit bytes (print_chunk_line line) content × (limit < length content + chunk_size line)
 
--- The content of a chunked body within the limit, which was taken; or why there is none, with all bytes that came either
+-- The content of a chunked body within the limit, which was taken; or why there is none, with all bytes that came
+-- either
 -- taken or kept.
 abbrev pub ReadsChunked : ℕ → Option (List ℕ) → Option (List ℕ) → List ℕ → List ℕ → BodyRead → Type 0
 ReadsChunked limit old new before after (body.Body content) =
@@ -197,7 +203,8 @@ ReadsChunked limit old new before after body.Coded = ⊥
 
 -- the end of a chunk of which so many bytes were taken before
 abbrev pub ReadsEnd : ℕ → Option (List ℕ) → Option (List ℕ) → List ℕ → List ℕ → ChunkRead → Type 0
-ReadsEnd so_far old new before after (chunk.Some taken) = Moves old new before after crlf_bytes × (taken ≡ capped (so_far + 2))
+ReadsEnd so_far old new before after (chunk.Some taken) = Moves old new before after crlf_bytes
+    × (taken ≡ capped (so_far + 2))
 ReadsEnd so_far old new before after (chunk.CutShort taken) =
     Moves old new before after [] × IsCutEnd after × IsAtEnd new × (taken ≡ capped (so_far + length after))
 ReadsEnd so_far old new before after chunk.BadLength = Moves old new before after [] × IsBadEnd after
@@ -207,7 +214,8 @@ ReadsEnd so_far old new before after (chunk.Last taken) = ⊥
 ReadsEnd so_far old new before after chunk.TooLarge = ⊥
 
 -- the data and the end of a chunk behind a line of this size and length
-abbrev pub ReadsContent : ChunkSize → Option (List ℕ) → Option (List ℕ) → List ℕ → List ℕ → List ℕ → List ℕ → ChunkRead → Type 0
+abbrev pub ReadsContent : ChunkSize → Option (List ℕ) → Option (List ℕ) → List ℕ → List ℕ → List ℕ → List ℕ
+    → ChunkRead → Type 0
 ReadsContent line old new before after text longer (chunk.Some taken) =
     (content : List ℕ) × Moves old new before after (content ++ crlf_bytes) × (longer ≡ text ++ content)
     × (length content ≡ line.size) × (taken ≡ capped (line.taken + line.size + 2))
@@ -217,15 +225,18 @@ ReadsContent line old new before after text longer (chunk.CutShort taken) =
     × (((length content < line.size) × (after ≡ [])) ⊎ ((length content ≡ line.size) × IsCutEnd after))
 ReadsContent line old new before after text longer chunk.BadLength =
     (content : List ℕ) × Moves old new before after content × (length content ≡ line.size) × IsBadEnd after
-ReadsContent line old new before after text longer chunk.ReadFault = (content : List ℕ) × Moves old new before after content
-ReadsContent line old new before after text longer chunk.Memory = (content : List ℕ) × Moves old new before after content
+ReadsContent line old new before after text longer chunk.ReadFault = (content : List ℕ)
+    × Moves old new before after content
+ReadsContent line old new before after text longer chunk.Memory = (content : List ℕ)
+    × Moves old new before after content
 ReadsContent line old new before after text longer (chunk.Last taken) = ⊥
 ReadsContent line old new before after text longer chunk.TooLarge = ⊥
 
 -- the trailers behind so many bytes, with this content before them
 abbrev pub ReadsTrailers : ℕ → List ℕ → Option (List ℕ) → Option (List ℕ) → List ℕ → List ℕ → BodyRead → Type 0
 ReadsTrailers so_far text old new before after (body.Body content) =
-    (bytes : List ℕ) × (trailers : Trailers) × Moves old new before after bytes × SpellsTrailers bytes trailers × (content ≡ text)
+    (bytes : List ℕ) × (trailers : Trailers) × Moves old new before after bytes × SpellsTrailers bytes trailers
+    × (content ≡ text)
 ReadsTrailers so_far text old new before after (body.CutShort taken) =
     Moves old new before after [] × AreCutTrailers after × IsAtEnd new × (taken ≡ capped (so_far + length after))
 ReadsTrailers so_far text old new before after body.BadLength = Moves old new before after [] × AreBadTrailers after

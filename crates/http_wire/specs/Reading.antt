@@ -32,9 +32,11 @@ module _ {H : Type 0} (Spells : List ℕ → H → Type 0) (HasNone IsOpen IsOve
 
   -- The head's bytes were taken, and what follows them is kept; or there was no head, and all that came is kept.
   abbrev pub ReadsHead : Option (List ℕ) → Option (List ℕ) → List ℕ → List ℕ → HeadRead H → Type 0
-  ReadsHead old new before after (read.Head head) = (bytes : List ℕ) × Moves old new before after bytes × Spells bytes head
+  ReadsHead old new before after (read.Head head) = (bytes : List ℕ) × Moves old new before after bytes
+      × Spells bytes head
   ReadsHead old new before after read.Ended = Moves old new before after [] × IsAtEnd new × (after ≡ [])
-  ReadsHead old new before after (read.CutShort taken) = Moves old new before after [] × IsAtEnd new × IsCutShort after taken
+  ReadsHead old new before after (read.CutShort taken) = Moves old new before after [] × IsAtEnd new
+      × IsCutShort after taken
   ReadsHead old new before after (read.BadHead taken) = Moves old new before after [] × IsBadHead after taken
   ReadsHead old new before after read.ReadFault = Moves old new before after []
   ReadsHead old new before after read.Memory = Moves old new before after []

@@ -7,7 +7,7 @@ ghost use Rattle.cdni_base.specs.declared.date.TheConstants.{DATE_END};
 ghost use Rattle.http_wire.specs.declared.answer.TheConstants.{ANSWER_HEAD_MAX};
 ghost use Rattle.httpdate.specs.Date.{unix_secs, date_text};
 ghost use Rattle.httpdate.specs.declared.date.HttpDate.{HttpDate as Date};
-ghost use Rattle.http_wire.specs.Answer.{Adds, Fits, is_answer_status, status_line, field_line, date_line, length_line, kind_line, ranges_line, content_range_text, content_range_line, allow_text, allow_line, close_line, made_path, location_text, location_line, kind_line_of, head_text, message_lines, range_lines, link_lines};
+ghost use Rattle.http_wire.specs.Answer.{Adds, Fits, is_answer_status, status_line, field_line, date_line, length_line, kind_line, ranges_line, content_range_text, content_range_line, allow_text, allow_line, close_line, made_path, place_text, location_line, kind_line_of, head_text, message_lines, range_lines, link_lines};
 
 use byte_range::put_range;
 use cdni_base::{DATE_END, HostName, Moment, Scratch, TypeName};
@@ -298,7 +298,7 @@ fn put_date_line(out: &mut Scratch, date: &HttpDate) -> bool
 
 // puts `http://HOST`, the path and the number
 fn put_place(out: &mut Scratch, location: &Location<'_>) -> bool
-    ensures text { Adds out.old out.new (location_text location.now.host.now location.now.made location.now.number) result }
+    ensures text { Adds out.old out.new (place_text location.now) result }
     ensures short { Fits 292 out.old out.new result }
 {
     out.append(b"http://")
@@ -319,7 +319,7 @@ fn made_path(made: Made) -> &'static [u8]
 
 // puts the name of the field, such a place and the end of the line
 fn put_place_line(out: &mut Scratch, location: &Location<'_>) -> bool
-    ensures text { Adds out.old out.new (codes "Location: " ++ location_text location.now.host.now location.now.made location.now.number ++ codes "\r\n") result }
+    ensures text { Adds out.old out.new (codes "Location: " ++ place_text location.now ++ codes "\r\n") result }
     ensures short { Fits 304 out.old out.new result }
 {
     out.append(b"Location: ") && put_place(out, location) && out.append(b"\r\n")

@@ -53,9 +53,9 @@ pub(crate) enum PieceRead {
 
 /// Reads the body of a request of at most `limit` bytes: as many bytes as its one Content-Length says, or none
 /// (RFC 9112, section 6.3). `Coded` comes exactly where there is a Transfer-Encoding; else `BadLength` exactly where
-/// Content-Length is repeated or no number; else `TooLarge` exactly where it is above the limit. In these cases nothing is
-/// read. A number above 2^64 - 1 counts as that. Where the body is to come, no answer comes but it, `ReadFault` and
-/// `Memory`.
+/// Content-Length is repeated or no number; else `TooLarge` exactly where it is above the limit. In these cases
+/// nothing is read. A number above 2^64 - 1 counts as that. Where the body is to come, no answer comes but it,
+/// `ReadFault` and `Memory`.
 pub fn body_of<S: Source>(
     alloc: Global,
     source: &mut S,
@@ -125,8 +125,8 @@ pub fn read_length<S: Source>(
     }
 }
 
-/// Reads a body of at most `limit` bytes that reaches to the end of the source (RFC 9112, section 6.3). `TooLarge` comes
-/// exactly where more come, with `limit + 1`, or 2^64 - 1 where that is more.
+/// Reads a body of at most `limit` bytes that reaches to the end of the source (RFC 9112, section 6.3). `TooLarge`
+/// comes exactly where more come, with `limit + 1`, or 2^64 - 1 where that is more.
 pub fn read_to_end<S: Source>(
     alloc: Global,
     source: &mut S,

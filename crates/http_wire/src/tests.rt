@@ -222,9 +222,13 @@ fn heads_of_answers(rt: HostRuntime) -> Result<(), Fail> {
     };
     let mut out = Scratch::new(alloc, 165)?;
     assert!(rt; put_head(&mut out, &head));
-    assert_eq!(rt;
-        out.bytes(),
-        b"HTTP/1.1 200 OK\r\nDate: Fri, 17 May 2013 00:38:06 GMT\r\nContent-Length: 10\r\nContent-Type: text/plain\r\nAccept-Ranges: bytes\r\n\r\n".as_slice()
+    assert!(rt;
+        out.bytes().starts_with(b"HTTP/1.1 200 OK\r\nDate: Fri, 17 May 2013 00:38:06 GMT\r\n")
+    );
+    assert!(rt;
+        out.bytes().ends_with(
+            b"Content-Length: 10\r\nContent-Type: text/plain\r\nAccept-Ranges: bytes\r\n\r\n"
+        )
     );
     assert!(rt; !put_head(&mut out, &head));
     assert_eq!(rt; out.bytes().len(), 124);

@@ -1,4 +1,3 @@
-pub mod AnswerLemmas
 pub mod BodyLemmas
 pub mod ChunkLemmas
 pub mod ChunkedLemmas

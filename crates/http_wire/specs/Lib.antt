@@ -1,4 +1,3 @@
-pub mod Answer
 pub mod Body
 pub mod Chunked
 pub mod Fields

@@ -1,8 +1,6 @@
-//! Messages of HTTP/1.1 as bytes (RFC 9112): heads and bodies are read from a source, heads of answers are put into a
-//! scratch.
+//! Messages of HTTP/1.1 as bytes (RFC 9112): heads and bodies are read from a source.
 #![tactic(auto)]
 
-mod answer;
 mod body;
 mod chunked;
 mod fields;
@@ -14,7 +12,6 @@ mod response;
 #[cfg(test)]
 mod tests;
 
-pub use answer::{Allow, AnswerHead, ContentRange, Location, Made, put_head};
 pub use body::{BodyRead, body_of, read_length, read_to_end};
 pub use chunked::read_chunked;
 pub use fields::{Found, Header};

@@ -12,9 +12,6 @@ pub const FEEDS_MAX: usize = 66;
 /// The most header fields of a head.
 pub const FIELDS_MAX: usize = 64;
 
-/// `0`
-pub const DIGIT_ZERO: u8 = 48;
-
 /// `\n`
 pub(crate) const LINE_FEED: u8 = 10;
 

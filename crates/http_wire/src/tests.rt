@@ -1,9 +1,7 @@
-// What no clause says: that reading and putting succeed where there is memory, on messages written out in full.
+// What no clause says: that reading succeeds where there is memory, on messages written out in full.
 use crate::{
-    AnswerHead, BodyRead, ContentRange, HeadRead, Inbox, body_of, put_head, read_chunked,
-    read_head, read_response_head,
+    BodyRead, HeadRead, Inbox, body_of, read_chunked, read_head, read_response_head, read_to_end,
 };
-use cdni_base::{Scratch, TypeName};
 use edge_base::MemorySource;
 use std::alloc::Global;
 use std::test::Fail;
@@ -204,44 +202,18 @@ fn chunked_bodies(rt: HostRuntime) -> Result<(), Fail> {
 }
 
 #[test]
-fn heads_of_answers(rt: HostRuntime) -> Result<(), Fail> {
+fn bodies_to_the_end(rt: HostRuntime) -> Result<(), Fail> {
     let alloc = rt.alloc();
-    let Some(kind) = TypeName::of(alloc, b"text/plain")? else {
-        return Err(Fail::from("a short name"));
-    };
-    let mut head = AnswerHead {
-        status: 200,
-        moment: 1_368_751_086_825,
-        length: Some(10),
-        kind: Some(&kind),
-        ranges: true,
-        content_range: None,
-        allow: None,
-        location: None,
-        close: false,
-    };
-    let mut out = Scratch::new(alloc, 165)?;
-    assert!(rt; put_head(&mut out, &head));
-    assert!(rt;
-        out.bytes().starts_with(b"HTTP/1.1 200 OK\r\nDate: Fri, 17 May 2013 00:38:06 GMT\r\n")
-    );
-    assert!(rt;
-        out.bytes().ends_with(
-            b"Content-Length: 10\r\nContent-Type: text/plain\r\nAccept-Ranges: bytes\r\n\r\n"
-        )
-    );
-    assert!(rt; !put_head(&mut out, &head));
-    assert_eq!(rt; out.bytes().len(), 124);
-    out.clear();
-    head.status = 206;
-    head.length = Some(3);
-    head.content_range = Some(ContentRange::Part {
-        first: 2,
-        last: 4,
-        len: 10,
-    });
-    assert!(rt; put_head(&mut out, &head));
-    assert_eq!(rt; out.bytes().len(), 165);
+    let ones = vec![in alloc; 1u64; 8]?;
+    for (bytes, want) in [("", ""), ("abcd", "abcd"), ("abcde", "too large 5")] {
+        for gives in [[].as_slice(), ones.as_slice()] {
+            let mut source = MemorySource::new(alloc, bytes.as_bytes(), gives)?;
+            let mut inbox = Inbox::new(alloc)?;
+            let read = read_to_end(alloc, &mut source, &mut inbox, 4);
+            let told = body_told(alloc, read)?;
+            assert_eq!(rt; told.as_slice(), want.as_bytes(), "{bytes}");
+        }
+    }
     Ok(())
 }
 

@@ -1,8 +1,8 @@
 use Rattle.std.proofs.Common.{sym, ap, codes, decimal}
 use Rattle.byte_range.specs.Put.{range_text}
-use Rattle.http_wire.specs.Answer.{content_range_text}
-use Rattle.http_wire.proofs.AnswerLemmas.{adds_as, adds_then, puts_adds, puts_whole}
-use Rattle.http_wire.proofs.answer.put_range_value.Goals as goal
+use Rattle.answer_head.specs.Answer.{content_range_text}
+use Rattle.answer_head.proofs.AnswerLemmas.{adds_as, adds_then, puts_adds, puts_whole}
+use Rattle.answer_head.proofs.answer.put_range_value.Goals as goal
 
 pub returns-in-Part-clause-text : goal.returns-in-Part-clause-text
 returns-in-Part-clause-text c =

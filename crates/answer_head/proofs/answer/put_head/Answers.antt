@@ -1,6 +1,6 @@
-use Rattle.http_wire.proofs.AnswerLemmas.{taken_back}
-use Rattle.http_wire.specs.Answer.{head_text}
-use Rattle.http_wire.proofs.answer.put_head.Goals as goal
+use Rattle.answer_head.proofs.AnswerLemmas.{taken_back}
+use Rattle.answer_head.specs.Answer.{head_text}
+use Rattle.answer_head.proofs.answer.put_head.Goals as goal
 
 pub returns-clause-text : goal.returns-clause-text
 returns-clause-text c = (

@@ -6,15 +6,15 @@ use Rattle.byte_range.specs.Put.{range_text}
 use Rattle.cdni_base.specs.Scratch.{Room}
 use Rattle.httpdate.specs.Date.{date_text}
 use Rattle.httpdate.specs.declared.date.HttpDate.{HttpDate}
-use Rattle.http_wire.specs.declared.limits.TheConstants.{DIGIT_ZERO}
-use Rattle.http_wire.specs.declared.answer.AnswerHead.{AnswerHead}
-use Rattle.http_wire.specs.declared.answer.Location.{Location}
-use Rattle.http_wire.specs.declared.answer.ContentRange.{ContentRange}
-use Rattle.http_wire.specs.declared.answer.ContentRange.TheVariants as range
-use Rattle.http_wire.specs.declared.answer.Allow.{Allow}
-use Rattle.http_wire.specs.declared.answer.Allow.TheVariants as allow
-use Rattle.http_wire.specs.declared.answer.Made.{Made}
-use Rattle.http_wire.specs.declared.answer.Made.TheVariants as made
+use Rattle.answer_head.specs.declared.answer.TheConstants.{DIGIT_ZERO}
+use Rattle.answer_head.specs.declared.answer.AnswerHead.{AnswerHead}
+use Rattle.answer_head.specs.declared.answer.Location.{Location}
+use Rattle.answer_head.specs.declared.answer.ContentRange.{ContentRange}
+use Rattle.answer_head.specs.declared.answer.ContentRange.TheVariants as range
+use Rattle.answer_head.specs.declared.answer.Allow.{Allow}
+use Rattle.answer_head.specs.declared.answer.Allow.TheVariants as allow
+use Rattle.answer_head.specs.declared.answer.Made.{Made}
+use Rattle.answer_head.specs.declared.answer.Made.TheVariants as made
 
 -- the end of a line (RFC 9112, section 2.1)
 abbrev pub line_end : List ℕ

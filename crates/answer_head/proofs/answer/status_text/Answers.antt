@@ -1,7 +1,7 @@
 use Rattle.std.proofs.Common.{sym, ◌∙◌, ap}
-use Rattle.http_wire.specs.Answer.{status_line}
-use Rattle.http_wire.proofs.AnswerLemmas as lines
-use Rattle.http_wire.proofs.answer.status_text.Goals as goal
+use Rattle.answer_head.specs.Answer.{status_line}
+use Rattle.answer_head.proofs.AnswerLemmas as lines
+use Rattle.answer_head.proofs.answer.status_text.Goals as goal
 
 pub returns-in-200-clause-text : goal.returns-in-200-clause-text
 returns-in-200-clause-text c = lines.line_200 ∙ ap status_line (sym c.in-200.is)

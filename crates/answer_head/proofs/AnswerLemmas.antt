@@ -5,7 +5,7 @@ use Rattle.std.proofs.lemmas.Fmt.{length-decimal-le}
 use Rattle.std.proofs.Math.Seq.{take-append_seam}
 use Rattle.byte_range.specs.Put.{PutsFront, range_text}
 use Rattle.cdni_base.specs.Scratch.{Room, Puts}
-use Rattle.http_wire.specs.Answer.{Adds, Fits, is_answer_status, status_line, phrase_of}
+use Rattle.answer_head.specs.Answer.{Adds, Fits, is_answer_status, status_line, phrase_of}
 
 pub line_200 : codes "HTTP/1.1 200 OK\r\n" ≡ status_line 200
 unfolding status_line phrase_of

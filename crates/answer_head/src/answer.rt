@@ -4,10 +4,10 @@ ghost use Rattle.std.specs.Prelude.{◌≡◌, ◌+◌, ◌<◌, ◌≤◌, ◌/
 ghost use Rattle.byte_range.specs.Put.{PutsFront, range_text};
 ghost use Rattle.cdni_base.specs.Scratch.{Puts};
 ghost use Rattle.cdni_base.specs.declared.date.TheConstants.{DATE_END};
-ghost use Rattle.http_wire.specs.declared.answer.TheConstants.{ANSWER_HEAD_MAX};
+ghost use Rattle.answer_head.specs.declared.answer.TheConstants.{ANSWER_HEAD_MAX};
 ghost use Rattle.httpdate.specs.Date.{unix_secs, date_text};
 ghost use Rattle.httpdate.specs.declared.date.HttpDate.{HttpDate as Date};
-ghost use Rattle.http_wire.specs.Answer.{Adds, Fits, is_answer_status, status_line, field_line, date_line, length_line, kind_line, ranges_line, content_range_text, content_range_line, allow_text, allow_line, close_line, made_path, place_text, location_line, kind_line_of, head_text, message_lines, range_lines, link_lines};
+ghost use Rattle.answer_head.specs.Answer.{Adds, Fits, is_answer_status, status_line, field_line, date_line, length_line, kind_line, ranges_line, content_range_text, content_range_line, allow_text, allow_line, close_line, made_path, place_text, location_line, kind_line_of, head_text, message_lines, range_lines, link_lines};
 
 use byte_range::put_range;
 use cdni_base::{DATE_END, HostName, Moment, Scratch, TypeName};
@@ -15,6 +15,9 @@ use httpdate::HttpDate;
 
 /// The most bytes of the head of an answer: by the bounds of its parts it has fewer.
 pub const ANSWER_HEAD_MAX: usize = 2048;
+
+/// `0`
+pub const DIGIT_ZERO: u8 = 48;
 
 /// The value of Content-Range (RFC 9110, section 14.4), in bytes.
 #[derive(Clone, Copy, Debug, PartialEq, Eq)]

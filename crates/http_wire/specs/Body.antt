@@ -110,8 +110,7 @@ abbrev pub capped : ℕ → ℕ
 capped n = min n (2 ^ 64 - 1)
 
 -- All bytes up to the source's end were taken; or as many as the limit allows, and more came; or the source failed,
--- or no
--- memory was found, after some.
+-- or no memory was found, after some.
 abbrev pub ReadsToEnd : ℕ → Option (List ℕ) → Option (List ℕ) → List ℕ → List ℕ → BodyRead → Type 0
 ReadsToEnd limit old new before after (body.Body text) =
     Moves old new before after text × IsAtEnd new × (after ≡ []) × (length text ≤ limit)

@@ -185,8 +185,7 @@ IsTooLarge limit bytes = (line : ChunkLine) × (content : List ℕ) × IsLine li
     × Follows limit bytes (print_chunk_line line) content × (limit < length content + chunk_size line)
 
 -- The content of a chunked body within the limit, which was taken; or why there is none, with all bytes that came
--- either
--- taken or kept.
+-- either taken or kept.
 abbrev pub ReadsChunked : ℕ → Option (List ℕ) → Option (List ℕ) → List ℕ → List ℕ → BodyRead → Type 0
 ReadsChunked limit old new before after (body.Body content) =
     (bytes : List ℕ) × Moves old new before after bytes × IsChunked bytes content × (length content ≤ limit)

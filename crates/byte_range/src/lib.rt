@@ -10,4 +10,4 @@ mod want;
 
 pub use put::put_range;
 pub use span::{Span, resolve};
-pub use want::{Want, read};
+pub use want::{Want, number_of, read};

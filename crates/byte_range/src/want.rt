@@ -11,8 +11,9 @@ pub enum Want {
     Last { count: u64 },
 }
 
-// The number of decimal digits, if the text has nothing else. A number above 2^64 - 1 counts as that.
-fn number_of(digits: &[u8]) -> Option<u64>
+/// The number that one or more decimal digits write; zeros may lead. `None` where the text is something else. A number
+/// above 2^64 - 1 counts as that.
+pub fn number_of(digits: &[u8]) -> Option<u64>
     ensures { result ≡ number_of digits.now }
 {
     if digits.is_empty() {

@@ -1,0 +1,10 @@
+pub mod BodyLemmas
+pub mod ChunkLemmas
+pub mod ChunkedLemmas
+pub mod FieldLemmas
+pub mod FoundLemmas
+pub mod HeadLemmas
+pub mod InboxLemmas
+pub mod LimitLemmas
+pub mod MoveLemmas
+pub mod ResponseLemmas

@@ -1,0 +1,66 @@
+-- How many line feeds stand in bytes.
+use Rattle.std.proofs.Common.{◌≡◌, ℕ, ◌+◌, ◌<◌, ◌≤◌, List, [], ◌∷◌, ◌++◌, length, take, drop, refl, sym, ap, subst, arith, cond, append_assoc, length-append}
+use Rattle.std.specs.Prelude.{◌==◌}
+use Rattle.std.specs.List.{flat_map}
+use Rattle.std.proofs.lemmas.List.{take-append-drop, drop-append-le}
+use Rattle.std.proofs.lemmas.List.Sums.{sum_by-append, count_by-le-length}
+use Rattle.httparse.specs.Grammar.{LineEnd, crlf, lf, print_end, Field, print_field, print_section}
+use Rattle.http_wire.specs.Limits.{feeds}
+
+pub feeds-append : (xs ys : List ℕ) → feeds (xs ++ ys) ≡ feeds xs + feeds ys
+unfolding feeds
+feeds-append xs ys = sum_by-append (λ byte. cond (byte == 10) 1 0) xs ys
+
+pub feeds-take : (n : ℕ) (xs : List ℕ) → feeds (take n xs) ≤ feeds xs
+feeds-take n xs = omega (arith, ap feeds (sym (take-append-drop n xs)), feeds-append (take n xs) (drop n xs))
+
+pub feeds-le-length : (xs : List ℕ) → feeds xs ≤ length xs
+unfolding feeds
+feeds-le-length xs = count_by-le-length (λ byte. byte == 10) xs
+
+pub feeds-end : (end : LineEnd) → feeds (print_end end) ≡ 1
+unfolding feeds
+feeds-end crlf = refl
+feeds-end lf = refl
+
+last_feed : (front : List ℕ) (n : ℕ) → n < length (front ++ 10 ∷ []) → 1 ≤ feeds (drop n (front ++ 10 ∷ []))
+last_feed front n inside =
+    let short : n ≤ length front = omega (arith, length-append front (10 ∷ [])) in
+    omega (arith, ap feeds (drop-append-le n front (10 ∷ []) short), feeds-append (drop n front) (10 ∷ []), feeds-end lf)
+
+-- the last byte of a line end is a line feed
+pub feeds-behind : (end : LineEnd) (front : List ℕ) (n : ℕ) → n < length (front ++ print_end end) → 1 ≤ feeds (drop n (front ++ print_end end))
+feeds-behind lf front n inside = last_feed front n inside
+feeds-behind crlf front n inside =
+    let P : List ℕ → Type 0 = λ text. n < length text → 1 ≤ feeds (drop n text) in
+    subst P (append_assoc front (13 ∷ []) (10 ∷ [])) (last_feed (front ++ 13 ∷ []) n) inside
+
+feeds-field : (field : Field) → 1 ≤ feeds (print_field field)
+feeds-field field = omega (arith, feeds-append (field.name ++ 58 ∷ field.raw) (print_end field.end), feeds-end field.end)
+
+pub feeds-fields : (fields : List Field) → length fields ≤ feeds (flat_map print_field fields)
+feeds-fields [] = omega arith
+feeds-fields (field ∷ fields) =
+    omega (arith, feeds-append (print_field field) (flat_map print_field fields), feeds-field field, feeds-fields fields)
+
+-- a start line and a section have a line feed for each line
+pub feeds-lines : (start : List ℕ) (end : LineEnd) (fields : List Field) (last : LineEnd)
+    → length fields + 2 ≤ feeds ((start ++ print_end end) ++ print_section fields last)
+feeds-lines start end fields last =
+    omega (
+      arith,
+      feeds-append (start ++ print_end end) (print_section fields last),
+      feeds-append start (print_end end),
+      feeds-end end,
+      feeds-append (flat_map print_field fields) (print_end last),
+      feeds-end last,
+      feeds-fields fields,
+    )
+
+pub lines-end : (start : List ℕ) (end : LineEnd) (fields : List Field) (last : LineEnd) (n : ℕ)
+    → n < length ((start ++ print_end end) ++ print_section fields last)
+    → 1 ≤ feeds (drop n ((start ++ print_end end) ++ print_section fields last))
+lines-end start end fields last n =
+    let front = start ++ print_end end in
+    let P : List ℕ → Type 0 = λ text. n < length text → 1 ≤ feeds (drop n text) in
+    subst P (append_assoc front (flat_map print_field fields) (print_end last)) (feeds-behind last (front ++ flat_map print_field fields) n)

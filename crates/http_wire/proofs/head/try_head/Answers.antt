@@ -1,0 +1,23 @@
+use Rattle.std.proofs.Common.{arith, ap, sym, Err, subst, inr, take}
+use Rattle.http_wire.specs.Head.{HeadParts, Spells}
+use Rattle.http_wire.proofs.HeadLemmas.{none_with_room, refused, spells_found, long_found}
+use Rattle.http_wire.proofs.head.try_head.Goals as goal
+
+pub returns-then-feeds_in-gt-FEEDS_MAX : goal.returns-then-feeds_in-gt-FEEDS_MAX
+returns-then-feeds_in-gt-FEEDS_MAX c =
+    let whole = rw c.in-Ok-Complete.field-0-is at c.in-Ok-Complete.ensures.complete in
+    let long = long_found c.args.bytes.now c.parse_request.new.headers c.in-Ok-Complete.found whole.0 whole.1 (omega (arith, c.if-feeds_in-gt-FEEDS_MAX.true, c.feeds_in.ensures)) in
+    (long.0, inr long.1)
+
+pub returns-in-Ok : goal.returns-in-Ok
+returns-in-Ok c =
+    let whole = rw c.in-Ok-Complete.field-0-is at c.in-Ok-Complete.ensures.complete in
+    let within = rw c.in-Ok-Complete.field-0-is at c.in-Ok-Complete.ensures.within in (
+      within.section.len_fits,
+      subst (λ (parts : HeadParts). Spells (take c.in-Ok-Complete.found.len c.args.bytes.now) parts) (sym c.in-Ok.ensures)
+          (spells_found c.args.bytes.now c.parse_request.new.headers c.in-Ok-Complete.found whole.0 whole.1 within (omega (arith, c.if-feeds_in-gt-FEEDS_MAX.false, c.feeds_in.ensures)) c.requires),
+    )
+
+pub returns-in-Err : goal.returns-in-Err
+returns-in-Err c =
+    (none_with_room c.args.bytes.now c.in-Err.ensures.no_room, refused c.args.bytes.now c.in-Err.field-0 c.in-Err.ensures.invalid (λ p. c.in-Err.ensures.too_many (ap Err p)))

@@ -1,0 +1,9 @@
+pub mod Body
+pub mod Chunked
+pub mod Fields
+pub mod Head
+pub mod Inbox
+pub mod Limits
+pub mod Moves
+pub mod Reading
+pub mod Response

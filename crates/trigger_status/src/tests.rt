@@ -107,20 +107,38 @@ fn is_resource(
 fn a_done_trigger_is_written(rt: HostRuntime) -> Result<(), Fail> {
     let text =
         br#"{"cdn-path":["AS64500:0"],"trigger":{"content.urls":["http://v.example/a"],"type":"invalidate"}}"#;
-    let expected =
-        br#"{"ctime":2,"mtime":12,"status":"complete","trigger":{"content.urls":["http://v.example/a"],"type":"invalidate"}}"#;
-    let same = is_resource(rt.alloc(), text, false, &[], expected)?;
+    let expected = concat!(
+        r#"{"ctime":2,"mtime":12,"status":"complete","trigger":{"content.urls":["http://v.example/a"],"#,
+        r#""type":"invalidate"}}"#,
+    );
+    let same = is_resource(rt.alloc(), text, false, &[], expected.as_bytes())?;
     assert!(rt; same);
     Ok(())
 }
 
 #[test]
 fn a_failed_trigger_is_written(rt: HostRuntime) -> Result<(), Fail> {
-    let text =
-        br#"{"cdn-path":[],"trigger":{"type":"purge","metadata.urls":["http://m/"],"content.urls":["http://v/a","HTTP://v/b"],"content.ccid":["a\"\\\u0001\n","c"],"metadata.patterns":[{"pattern":"*","case-sensitive":true}],"content.patterns":[{"pattern":"x","match-query-string":true}]}}"#;
-    let expected =
-        br#"{"ctime":2,"errors":[{"error":"emeta","metadata.urls":["http://m/"]},{"content.urls":["HTTP://v/b","http://v/a"],"error":"econtent"}],"mtime":12,"status":"failed","trigger":{"content.ccid":["a\"\\\u0001\n","c"],"content.patterns":[{"case-sensitive":false,"match-query-string":true,"pattern":"x"}],"content.urls":["http://v/a","HTTP://v/b"],"metadata.patterns":[{"case-sensitive":true,"match-query-string":false,"pattern":"*"}],"metadata.urls":["http://m/"],"type":"purge"}}"#;
-    let same = is_resource(rt.alloc(), text, true, &[1, 0], expected)?;
+    let text = concat!(
+        r#"{"cdn-path":[],"trigger":{"type":"purge","metadata.urls":["http://m/"],"#,
+        r#""content.urls":["http://v/a","HTTP://v/b"],"content.ccid":["a\"\\\u0001\n","c"],"#,
+        r#""metadata.patterns":[{"pattern":"*","case-sensitive":true}],"#,
+        r#""content.patterns":[{"pattern":"x","match-query-string":true}]}}"#,
+    );
+    let expected = concat!(
+        r#"{"ctime":2,"errors":[{"error":"emeta","metadata.urls":["http://m/"]},"#,
+        r#"{"content.urls":["HTTP://v/b","http://v/a"],"error":"econtent"}],"mtime":12,"#,
+        r#""status":"failed","trigger":{"content.ccid":["a\"\\\u0001\n","c"],"#,
+        r#""content.patterns":[{"case-sensitive":false,"match-query-string":true,"pattern":"x"}],"#,
+        r#""content.urls":["http://v/a","HTTP://v/b"],"metadata.patterns":[{"case-sensitive":true,"#,
+        r#""match-query-string":false,"pattern":"*"}],"metadata.urls":["http://m/"],"type":"purge"}}"#,
+    );
+    let same = is_resource(
+        rt.alloc(),
+        text.as_bytes(),
+        true,
+        &[1, 0],
+        expected.as_bytes(),
+    )?;
     assert!(rt; same);
     Ok(())
 }
@@ -161,9 +179,16 @@ fn a_collection_is_written(rt: HostRuntime) -> Result<(), Fail> {
 #[test]
 fn the_collection_of_all_is_written(rt: HostRuntime) -> Result<(), Fail> {
     let ids = id_list(rt.alloc(), &[2, 18446744073709551615])?;
-    let expected =
-        br#"{"cdn-id":"AS64496:0","coll-active":"http://control.example/triggers/active","coll-all":"http://control.example/triggers","coll-complete":"http://control.example/triggers/complete","coll-failed":"http://control.example/triggers/failed","coll-pending":"http://control.example/triggers/pending","triggers":["http://control.example/triggers/2","http://control.example/triggers/18446744073709551615"]}"#;
-    let same = is_collection(rt.alloc(), &ids, Filter::All, expected)?;
+    let expected = concat!(
+        r#"{"cdn-id":"AS64496:0","coll-active":"http://control.example/triggers/active","#,
+        r#""coll-all":"http://control.example/triggers","#,
+        r#""coll-complete":"http://control.example/triggers/complete","#,
+        r#""coll-failed":"http://control.example/triggers/failed","#,
+        r#""coll-pending":"http://control.example/triggers/pending","#,
+        r#""triggers":["http://control.example/triggers/2","#,
+        r#""http://control.example/triggers/18446744073709551615"]}"#,
+    );
+    let same = is_collection(rt.alloc(), &ids, Filter::All, expected.as_bytes())?;
     assert!(rt; same);
     Ok(())
 }

@@ -1,0 +1,5 @@
+pub mod Growth
+pub mod ListLemmas
+pub mod OpenLemmas
+pub mod ShelfLemmas
+pub mod Squares

@@ -1,0 +1,220 @@
+-- The side of the core that delivers, as its calls see it: what a history leaves of it, without positions.
+use Rattle.std.specs.Prelude.{ℕ, ◌+◌, ◌^◌, ◌-◌, Bool, true, false, min, nat_lt, ◌==◌, List, [], ◌∷◌, ◌++◌, length, map, None, Some, if◌then◌else◌}
+use Rattle.std.specs.List.{find}
+use Rattle.std.specs.Option.{option_and_then, option_map}
+use Rattle.std.specs.declared.option.Option.{Option}
+use Rattle.cdni_base.specs.Limits.{Bounds}
+use Rattle.cdni_base.specs.Key.{KeyParts}
+use Rattle.cdni_base.specs.declared.asked.Asked.{Asked}
+use Rattle.cdni_base.specs.declared.rule.Rule.{Rule}
+use Rattle.inheritance.specs.Held.{ccid_of}
+use Rattle.location_acl.specs.declared.footprint.Place.{Place}
+use Rattle.metadata_objects.specs.LevelData.{Index}
+use Rattle.metadata_objects.specs.Tree.{TreeData}
+use Rattle.metadata_objects.specs.declared.generic.Generic.{Generic}
+use Rattle.targets.specs.declared.target.Target.{Target}
+use Rattle.upstream_gate.specs.declared.outcome.Outcome.{Outcome}
+use Rattle.verdict.specs.Plan.{plan_of}
+use Rattle.history.specs.After.{admission}
+use Rattle.history.specs.Kept.{kept_of, used}
+use Rattle.history.specs.Metadata.{forbidden, key_by, objects_of}
+use Rattle.history.specs.World.{Kept}
+use Rattle.history.specs.declared.begun.Admission.{Admission}
+use Rattle.history.specs.declared.begun.Fetching.{Fetching}
+use Rattle.delivery_core.specs.Open.{is_named, unnamed}
+use Rattle.delivery_core.specs.Shelf.{is_gained, brought}
+use Rattle.delivery_core.specs.declared.decision.Decision.{Decision}
+use Rattle.delivery_core.specs.declared.decision.Decision.TheVariants as decision
+use Rattle.delivery_core.specs.declared.open.Open.{Open}
+use Rattle.delivery_core.specs.declared.results.Admitted.{Admitted}
+use Rattle.delivery_core.specs.declared.results.Admitted.TheVariants as admitted
+use Rattle.delivery_core.specs.declared.results.Began.{Began}
+use Rattle.delivery_core.specs.declared.results.Began.TheVariants as began
+use Rattle.delivery_core.specs.declared.results.RefreshEnded.{RefreshEnded}
+use Rattle.delivery_core.specs.declared.results.RefreshEnded.TheVariants as ended_as
+
+-- the installed metadata, its refresh, and the moment at which that began
+pub record Seen : Type 0 where
+  pub tree : TreeData
+  pub refresh : ℕ
+  pub moment : ℕ
+
+pub record EdgeView : Type 0 where
+  pub limits : Bounds
+  pub tree : Option Seen
+  pub kept : List Kept  -- the least recently used first
+  pub fetches : List (Open Fetching)  -- those that are open, in order
+  pub deliveries : List (Open Admission)  -- those that are open, in order
+  pub refreshes : List (Open ℕ)  -- those that are open, with the moments at which they began, in order
+  pub fetched : ℕ  -- fetches that were begun
+  pub delivered : ℕ  -- deliveries that were begun
+  pub refreshed : ℕ  -- refreshes that were begun
+  pub installed : ℕ  -- installations
+
+abbrev pub index_of : EdgeView → Option Index
+index_of v = option_map (λ seen. seen.tree.index) v.tree
+
+-- ---- a request
+
+-- with this effective metadata an allowed request has what is kept under its key, or waits for a fetch
+abbrev pub allowed_by : List Generic → Target → Option Kept → Decision
+allowed_by objects target (Some kept) =
+    decision.Hit (key_by objects target) (ccid_of objects) (record { fetch = kept.fetch; kind = kept.kind; body = kept.body })
+allowed_by objects target None = decision.Miss (key_by objects target) (ccid_of objects) (plan_of objects)
+
+abbrev pub allowed : List Kept → List Generic → Target → Decision
+allowed kept objects target = allowed_by objects target (kept_of (key_by objects target) kept)
+
+abbrev pub decided : Option Index → List Kept → Target → Option Rule → Decision
+decided index kept target (Some rule) = decision.Deny rule
+decided index kept target None = allowed kept (objects_of index target) target
+
+-- denied by the first rule that forbids, a hit, or a miss
+abbrev pub decision_of : EdgeView → Asked → Place → ℕ → Decision
+decision_of v asked place moment = decided (index_of v) v.kept asked.target
+    (forbidden (index_of v) None asked place moment)
+
+-- the count that is at its limit: deliveries, or what was opened
+abbrev pub full_count : EdgeView → ℕ → Option ℕ
+full_count v opened = if length v.deliveries == v.limits.rows then Some (length v.deliveries)
+    else (if opened == v.limits.opened then Some opened else None)
+
+abbrev pub entered_reply : EdgeView → Decision → Admitted
+entered_reply v (decision.Deny rule) = admitted.Denied (v.delivered + 1) rule
+entered_reply v (decision.Hit key ccid found) = admitted.Hit (v.delivered + 1) found.fetch found.kind found.body
+entered_reply v (decision.Miss key ccid plan) = admitted.Miss (v.delivered + 1) (v.fetched + 1) plan
+
+abbrev pub admit_reply_by : EdgeView → Decision → Option ℕ → Admitted
+admit_reply_by v decision (Some count) = admitted.Full count
+admit_reply_by v decision None = entered_reply v decision
+
+abbrev pub admit_reply : EdgeView → ℕ → Asked → Place → ℕ → Admitted
+admit_reply v opened asked place moment = admit_reply_by v (decision_of v asked place moment) (full_count v opened)
+
+-- one delivery more
+abbrev pub with_delivery : EdgeView → ℕ → Admission → List (Open Admission)
+with_delivery v pass what = v.deliveries ++ record { number = v.delivered + 1; pass = pass; what = what } ∷ []
+
+-- the request's content is of this collection, and is kept or not
+abbrev pub of_collection : Admission → Option (List ℕ) → Bool → Admission
+of_collection what ccid cached = record what { ccid = ccid; cached = cached }
+
+-- a denied delivery begins
+abbrev pub with_denial : EdgeView → ℕ → Admission → EdgeView
+with_denial v pass what = record v { deliveries = with_delivery v pass what; delivered = v.delivered + 1 }
+
+-- a delivery begins, and its object is used
+abbrev pub with_hit : EdgeView → ℕ → Admission → KeyParts → EdgeView
+with_hit v pass what key = record v {
+  kept = used key v.kept;
+  deliveries = with_delivery v pass what;
+  delivered = v.delivered + 1;
+}
+
+-- a delivery and its fetch begin
+abbrev pub with_miss : EdgeView → ℕ → Admission → Fetching → EdgeView
+with_miss v pass what fetching = record v {
+  fetches = v.fetches ++ record { number = v.fetched + 1; pass = pass; what = fetching } ∷ [];
+  fetched = v.fetched + 1;
+  deliveries = with_delivery v pass what;
+  delivered = v.delivered + 1;
+}
+
+-- a request of which a row will say this
+abbrev pub entered : EdgeView → ℕ → Admission → Decision → EdgeView
+entered v pass what (decision.Deny rule) = with_denial v pass what
+entered v pass what (decision.Hit key ccid found) = with_hit v pass (of_collection what ccid true) key
+entered v pass what (decision.Miss key ccid plan) =
+    with_miss v pass (of_collection what ccid false) (record { key = key; ccid = ccid })
+
+abbrev pub admit_after_by : EdgeView → ℕ → Admission → Decision → Option ℕ → EdgeView
+admit_after_by v pass what decision (Some count) = v
+admit_after_by v pass what decision None = entered v pass what decision
+
+abbrev pub admit_after : EdgeView → ℕ → ℕ → Asked → Place → ℕ → EdgeView
+admit_after v pass opened asked place moment = admit_after_by v pass (admission asked place moment None false)
+    (decision_of v asked place moment) (full_count v opened)
+
+-- ---- the end of a fetch
+
+abbrev pub fetch_end_reply : EdgeView → Outcome → Option (Open Fetching) → Option Bool
+fetch_end_reply v outcome flight = option_map (λ one. is_gained v.limits.cache v.kept one outcome) flight
+
+abbrev pub fetch_end_after : EdgeView → ℕ → ℕ → Outcome → Option (Open Fetching) → EdgeView
+fetch_end_after v pass fetch outcome None = v
+fetch_end_after v pass fetch outcome (Some flight) = record v {
+  fetches = unnamed fetch pass v.fetches;
+  kept = brought v.limits.cache v.kept flight outcome;
+}
+
+-- ---- refreshes
+
+-- before the begin of the installed refresh and the period, when the next one is due
+abbrev pub next_after : ℕ → ℕ → Seen → Option ℕ
+next_after period moment seen = if nat_lt moment (seen.moment + period)
+    then Some (min (seen.moment + period) (2 ^ 64 - 1)) else None
+
+abbrev pub next_due : EdgeView → ℕ → Option ℕ
+next_due v moment = option_and_then (next_after v.limits.period moment) v.tree
+
+-- none is due before this moment, unless one is forced
+abbrev pub begin_reply : EdgeView → Bool → Option ℕ → Began
+begin_reply v true next = began.Due (v.refreshed + 1)
+begin_reply v false None = began.Due (v.refreshed + 1)
+begin_reply v false (Some next) = began.NotDue next
+
+abbrev pub begin_after : EdgeView → ℕ → ℕ → Began → EdgeView
+begin_after v pass moment (began.Due refresh) = record v {
+  refreshes = v.refreshes ++ record { number = refresh; pass = pass; what = moment } ∷ [];
+  refreshed = refresh;
+}
+begin_after v pass moment (began.NotDue next) = v
+
+-- the installed refresh, where its number is greater
+abbrev pub newer_than : ℕ → Seen → Option ℕ
+newer_than refresh seen = if nat_lt refresh seen.refresh then Some seen.refresh else None
+
+abbrev pub newer : EdgeView → ℕ → Option ℕ
+newer v refresh = option_and_then (newer_than refresh) v.tree
+
+abbrev pub install_reply : EdgeView → Option ℕ → RefreshEnded
+install_reply v (Some refresh) = ended_as.Older refresh
+install_reply v None = ended_as.Installed (v.installed + 1)
+
+abbrev pub refresh_end_reply : EdgeView → ℕ → Option TreeData → Option (Open ℕ) → RefreshEnded
+refresh_end_reply v refresh tree None = ended_as.NotOpen
+refresh_end_reply v refresh None (Some begun) = ended_as.Failed
+refresh_end_reply v refresh (Some tree) (Some begun) = install_reply v (newer v refresh)
+
+abbrev pub install_after : EdgeView → ℕ → TreeData → ℕ → RefreshEnded → EdgeView
+install_after v refresh tree moment (ended_as.Installed generation) = record v {
+  tree = Some (record { tree = tree; refresh = refresh; moment = moment });
+  installed = generation;
+}
+install_after v refresh tree moment answer = v
+
+-- the refresh is no longer open
+abbrev pub without_refresh : EdgeView → ℕ → ℕ → EdgeView
+without_refresh v refresh pass = record v { refreshes = unnamed refresh pass v.refreshes }
+
+abbrev pub refresh_end_after : EdgeView → ℕ → ℕ → Option TreeData → Option (Open ℕ) → EdgeView
+refresh_end_after v pass refresh tree None = v
+refresh_end_after v pass refresh None (Some begun) = without_refresh v refresh pass
+refresh_end_after v pass refresh (Some tree) (Some begun) =
+    install_after (without_refresh v refresh pass) refresh tree begun.what (install_reply v (newer v refresh))
+
+-- ---- the empty edge
+
+abbrev pub empty : Bounds → EdgeView
+empty limits = record {
+  limits = limits;
+  tree = None;
+  kept = [];
+  fetches = [];
+  deliveries = [];
+  refreshes = [];
+  fetched = 0;
+  delivered = 0;
+  refreshed = 0;
+  installed = 0;
+}

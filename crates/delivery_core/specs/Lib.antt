@@ -1,0 +1,6 @@
+pub mod Decision
+pub mod Open
+pub mod OpenEquality
+pub mod Shelf
+pub mod Edge
+pub mod Traces

@@ -1,0 +1,134 @@
+//! What is decided of a request by the metadata and by what is kept.
+
+ghost use Rattle.std.specs.Prelude.{◌≡◌, IfOk, option_map};
+ghost use Rattle.metadata_objects.specs.LevelData.{index_view};
+ghost use Rattle.inheritance.specs.Held.{ccid_of};
+ghost use Rattle.history.specs.Metadata.{is_served, key_by};
+ghost use Rattle.delivery_core.specs.Decision.{IsJudged, IsJudgedBy};
+
+use cdni_base::{
+    Asked, Body, EndpointList, Ignored, Key, Moment, Rule, Target, Text, TypeName, url_key,
+};
+use inheritance::{Effective, effective};
+use location_acl::Place;
+use metadata_objects::HostIndex;
+use std::alloc::{AllocError, Global};
+use verdict::{Verdict, judge};
+
+/// What becomes of a request, and the key and collection of its content.
+#[derive(Drop)]
+pub(crate) enum Decision {
+    /// It is denied, by the first rule that forbids it.
+    Deny {
+        rule: Rule,
+    },
+    /// It has what this fetch brought.
+    Hit {
+        key: Key,
+        ccid: Option<Text>,
+        found: Found,
+    },
+    /// It waits for a fetch from these endpoints, in order.
+    Miss {
+        key: Key,
+        ccid: Option<Text>,
+        plan: EndpointList,
+    },
+}
+
+/// What a fetch brought.
+#[derive(Drop)]
+pub(crate) struct Found {
+    pub fetch: u64,
+    pub kind: TypeName,
+    pub body: Body,
+}
+
+/// Whether the metadata allows a request.
+#[derive(Drop)]
+pub(crate) enum Judged<'t> {
+    /// It does. This is effective.
+    Allowed(Effective<'t>),
+    /// This is the first rule that forbids it.
+    Forbidden(Rule),
+}
+
+/// Whether the installed metadata allows the request.
+///
+/// # Errors
+/// Want of memory.
+#[tactic(auto, unfolding(history::specs::Metadata::forbidden))]
+pub(crate) fn judge_request<'t>(
+    alloc: Global,
+    index: Option<&'t HostIndex>,
+    asked: &Asked,
+    place: &Place,
+    moment: Moment,
+) -> Result<Judged<'t>, AllocError>
+    ensures { IfOk result (λ judged. IsJudged (option_map (λ i. index_view i.now) index.entry)
+        asked.now place.now moment judged) }
+{
+    if !is_served(&asked.method) {
+        return Ok(Judged::Forbidden(Rule::Method));
+    }
+    match index {
+        Some(index) => judge_by(alloc, index, asked, place, moment),
+        None => Ok(Judged::Forbidden(Rule::NoMetadata)),
+    }
+}
+
+// GET and HEAD are served
+fn is_served(method: &Text) -> bool
+    ensures { result ≡ is_served method.now }
+{
+    method.is(b"GET") || method.is(b"HEAD")
+}
+
+// the same by this metadata
+fn judge_by<'t>(
+    alloc: Global,
+    index: &'t HostIndex,
+    asked: &Asked,
+    place: &Place,
+    moment: Moment,
+) -> Result<Judged<'t>, AllocError>
+    ensures { IfOk result (λ judged. IsJudgedBy (index_view index.now) asked.now place.now moment judged) }
+{
+    let Some(effective) = effective(alloc, index, &asked.target)? else {
+        return Ok(Judged::Forbidden(Rule::NoHost));
+    };
+    match judge(alloc, &effective, asked.protocol, place, moment)? {
+        Verdict::Allow => Ok(Judged::Allowed(effective)),
+        Verdict::Deny(rule) => Ok(Judged::Forbidden(rule)),
+    }
+}
+
+/// The cache key of a target by its effective metadata.
+///
+/// # Errors
+/// Want of memory.
+pub(crate) fn key_by(
+    alloc: Global,
+    effective: &Effective,
+    target: &Target,
+) -> Result<Key, AllocError>
+    ensures { IfOk result (λ key. key ≡ key_by effective.now target.now) }
+{
+    match effective.ignored() {
+        Some(ignored) => url_key(alloc, target, ignored),
+        None => url_key(alloc, target, &Ignored::None),
+    }
+}
+
+/// A copy of the collection by the effective metadata.
+///
+/// # Errors
+/// Want of memory.
+pub(crate) fn ccid_by(_alloc: Global, effective: &Effective) -> Result<Option<Text>, AllocError>
+    ensures { IfOk result (λ ccid. ccid ≡ ccid_of effective.now) }
+{
+    match effective.ccid() {
+        Some(ccid) => Ok(Some(ccid.clone()?)),
+        None => Ok(None),
+    }
+}

@@ -1,0 +1,13 @@
+//! The side of the core that delivers: the installed metadata, what is kept of fetches, and the deliveries, fetches and
+//! refreshes that are open. It sees no history: its value is what a history leaves of these, without positions.
+#![tactic(auto)]
+
+mod decision;
+mod edge;
+mod open;
+mod results;
+mod shelf;
+
+pub use edge::Edge;
+pub use open::Open;
+pub use results::{Admitted, Began, RefreshEnded};

@@ -1,0 +1,151 @@
+//! What fetches brought, and the fetches that are open.
+
+ghost use Rattle.std.specs.Prelude.{◌≡◌, ◌+◌, ◌^◌, ◌<◌, ◌≤◌, Ok, [], map, IfOk, IfNone, OnOk, OnErr, option_map};
+ghost use Rattle.std.specs.List.{find};
+ghost use Rattle.object_cache.specs.ObjectTable as objects;
+ghost use Rattle.history.specs.Kept.{kept_of, used, gained, with_gained};
+ghost use Rattle.delivery_core.specs.Open.{is_named, AreUpTo};
+ghost use Rattle.delivery_core.specs.Shelf.{kept_object, opened, end_reply, end_after, brought, is_gained};
+
+use crate::open::{Named, Open};
+use cdni_base::Key;
+use history::Fetching;
+use object_cache::{Object, ObjectTable};
+use rows::Row;
+use std::alloc::{AllocError, Global};
+use std::marker::Model;
+use upstream_gate::{Got, Outcome};
+
+/// The kept objects, and the fetches that are open. It is seen as the most bytes that are kept, the kept objects, the
+/// least recently used first, the open fetches, in order, and how many were opened. Each open fetch has a place for
+/// what it brings, so that its end takes no memory.
+#[derive(Drop)]
+pub(crate) struct Shelf {
+    table: ObjectTable,
+    flights: Row<Open<Fetching>>,
+    fetched: u64,
+}
+
+impl Model for Shelf {
+    ghost use Rattle.std.specs.Prelude.{◌≤◌, map, length};
+    ghost use Rattle.delivery_core.specs.Shelf.{ShelfView, kept_object};
+    ghost use Rattle.delivery_core.specs.Open.{AreUpTo};
+
+    ghost Value = { ShelfView };
+
+    ghost view = { λ s. record {
+      limit = s.table.limit;
+      kept = map kept_object s.table.objects;
+      fetches = s.flights.items;
+      fetched = s.fetched;
+    } };
+
+    ghost invariant = { λ s. (length s.flights.items ≤ s.table.spare) × AreUpTo s.fetched s.flights.items };
+}
+
+impl Shelf {
+    /// Nothing kept and nothing open. At most `limit` bytes are kept.
+    pub fn new(alloc: Global, limit: u64) -> Result<Shelf, AllocError>
+        ensures { result ≡ Ok (record { limit = limit; kept = []; fetches = []; fetched = 0 }) }
+    {
+        Ok(Shelf {
+            table: ObjectTable::new(alloc, limit)?,
+            flights: Row::new(alloc),
+            fetched: 0,
+        })
+    }
+
+    /// Opens a fetch for this pass, and answers its number.
+    ///
+    /// # Errors
+    /// Want of memory. Nothing is opened then.
+    pub fn open(&mut self, alloc: Global, pass: u32, what: Fetching) -> Result<u64, AllocError>
+        requires { self.old.fetched ≤ 2 ^ 62 }
+        ensures reply { IfOk result (λ fetch. fetch ≡ self.old.fetched + 1) }
+        ensures after { OnOk result (self.new ≡ opened self.old pass what) }
+        ensures err { OnErr result (self.new ≡ self.old) }
+    {
+        self.flights.reserve(alloc, 1)?;
+        self.table.reserve_fill(alloc)?;
+        self.fetched += 1;
+        self.flights.push(Open {
+            number: self.fetched,
+            pass,
+            what,
+        });
+        Ok(self.fetched)
+    }
+
+    /// What is kept under the key.
+    pub fn find(&self, key: &Key) -> Option<&Object>
+        ensures { option_map (λ o. kept_object o.now) result ≡ kept_of key.now self.now.kept }
+    {
+        self.table.find(key)
+    }
+
+    /// What is kept under the key was used: it goes to the end.
+    pub fn touch(&mut self, key: &Key)
+        ensures { self.new ≡ record self.old { kept = used key.now self.old.kept } }
+    {
+        self.table.touch(key);
+    }
+
+    /// Ends the fetch of this number, if this pass opened it, and keeps what it brought where it is to be kept. It takes
+    /// no memory. The answer is whether something was kept; `None` where no such fetch is open.
+    pub fn end(&mut self, pass: u32, fetch: u64, outcome: Outcome) -> Option<bool>
+        ensures reply { result ≡ end_reply self.old outcome (find (is_named fetch pass) self.old.fetches) }
+        ensures after { self.new ≡ end_after self.old pass fetch outcome (find (is_named fetch pass) self.old.fetches) }
+        ensures closed { IfNone result (self.new ≡ self.old) }
+    {
+        let named = Named {
+            number: fetch,
+            pass,
+        };
+        match self.flights.take(named) {
+            Some(flight) => Some(keep(&mut self.table, flight, outcome)),
+            None => None,
+        }
+    }
+}
+
+// keeps what an open fetch brought where it is to be kept, and gives its place back where it is not
+fn keep(table: &mut ObjectTable, flight: Open<Fetching>, outcome: Outcome) -> bool
+    requires { 0 < table.old.spare }
+    ensures reply { result ≡ is_gained table.old.limit (map kept_object table.old.objects) flight outcome }
+    ensures kept { map kept_object table.new.objects ≡ brought table.old.limit
+        (map kept_object table.old.objects) flight outcome }
+    ensures limit { table.new.limit ≡ table.old.limit }
+    ensures spare { table.new.spare + 1 ≡ table.old.spare }
+{
+    match outcome {
+        Outcome::Got(got) => keep_content(table, flight, got),
+        _ => {
+            table.give_back();
+            false
+        }
+    }
+}
+
+// the same of content
+fn keep_content(table: &mut ObjectTable, flight: Open<Fetching>, got: Got) -> bool
+    requires { 0 < table.old.spare }
+    ensures reply { result ≡ is_gained table.old.limit (map kept_object table.old.objects) flight (Outcome.Got got) }
+    ensures kept { map kept_object table.new.objects ≡ brought table.old.limit
+        (map kept_object table.old.objects) flight (Outcome.Got got) }
+    ensures limit { table.new.limit ≡ table.old.limit }
+    ensures spare { table.new.spare + 1 ≡ table.old.spare }
+{
+    if got.status() != 200 {
+        table.give_back();
+        return false;
+    }
+    let (kind, body) = got.into_parts();
+    let Fetching { key, ccid } = flight.what;
+    table.fill_reserved(Object {
+        key,
+        fetch: flight.number,
+        ccid,
+        kind,
+        body,
+    })
+}

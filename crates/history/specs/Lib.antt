@@ -1,0 +1,9 @@
+pub mod Event
+pub mod Metadata
+pub mod World
+pub mod Kept
+pub mod Steps
+pub mod Reply
+pub mod After
+pub mod History
+pub mod Laws

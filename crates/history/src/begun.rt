@@ -1,0 +1,26 @@
+//! What is known of deliveries and fetches from their beginning on.
+
+use cdni_base::{Key, Moment, Text};
+
+/// A delivery that was admitted: what its record will say of it.
+#[derive(Drop)]
+pub struct Admission {
+    /// When it was admitted, in milliseconds since 1970 UTC.
+    pub moment: Moment,
+    /// The number of the client's autonomous system, where it is known.
+    pub asn: Option<u32>,
+    pub method: Text,
+    /// The URL that was asked for.
+    pub uri: Text,
+    /// The collection that the content is of (RFC 8006, section 4.2.8), where it is of one; none where it is denied.
+    pub ccid: Option<Text>,
+    /// Whether the content was kept.
+    pub cached: bool,
+}
+
+/// A fetch that was begun: what it brings is kept under this key, and is of this collection (RFC 8006, section 4.2.8).
+#[derive(Drop)]
+pub struct Fetching {
+    pub key: Key,
+    pub ccid: Option<Text>,
+}

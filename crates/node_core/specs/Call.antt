@@ -1,0 +1,12 @@
+-- A call as the definitions see it: with metadata as plain data.
+use Rattle.std.specs.Option.{option_map}
+use Rattle.metadata_objects.specs.Tree.{tree_view}
+use Rattle.history.specs.Event.{Event, Admit, FetchEnd, RefreshBegin, RefreshEnd}
+use Rattle.node_core.specs.declared.call.Call.{Call}
+use Rattle.node_core.specs.declared.call.Call.TheVariants as call
+
+abbrev pub event_of : Call → Event
+event_of (call.RefreshBegin moment) = RefreshBegin moment
+event_of (call.RefreshEnd refresh tree moment) = RefreshEnd refresh (option_map tree_view tree) moment
+event_of (call.Admit asked place moment) = Admit asked place moment
+event_of (call.FetchEnd fetch outcome moment) = FetchEnd fetch outcome moment

@@ -1,0 +1,33 @@
+//! The calls of a node.
+
+use cdni_base::{Asked, Moment};
+use location_acl::Place;
+use metadata_objects::Tree;
+use upstream_gate::Outcome;
+
+/// A call of those that a node takes in so far: of deliveries, fetches and metadata.
+#[derive(Drop)]
+pub enum Call {
+    /// A refresh of the metadata would begin.
+    RefreshBegin {
+        moment: Moment,
+    },
+    /// A refresh ended, with what was gathered, if it could be read.
+    RefreshEnd {
+        refresh: u64,
+        tree: Option<Tree>,
+        moment: Moment,
+    },
+    /// The request of a client at this place would be delivered.
+    Admit {
+        asked: Asked,
+        place: Place,
+        moment: Moment,
+    },
+    /// A fetch ended so.
+    FetchEnd {
+        fetch: u64,
+        outcome: Outcome,
+        moment: Moment,
+    },
+}

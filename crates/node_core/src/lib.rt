@@ -3,8 +3,6 @@
 
 mod call;
 mod node;
-#[cfg(test)]
-mod tests;
 
 pub use call::Call;
 pub use node::Node;

@@ -35,7 +35,7 @@ use Rattle.history.specs.Event.{Event, Admit, FetchEnd, RefreshEnd}
 use Rattle.upstream_gate.specs.Got.{GotParts, IsGot, is_got_status}
 use Rattle.upstream_gate.specs.declared.got.TheConstants.{BODY_MAX}
 use Rattle.upstream_gate.specs.declared.outcome.Outcome.TheVariants as outcome
-use Rattle.replay_script.specs.Call.{Noted, Said, Scripted, Sets, Calls}
+use Rattle.replay_script.specs.Call.{Noted, Said, Sets, Calls}
 use Rattle.replay_script.specs.Grammar.{number_below, number_between, bounds_of, limits_of, url_target, key_of_url, keys_of_urls, keys_of, is_method, protocol_of, place_at, asked_of, get_of, refreshed, meta_of, plain, is_kind, kind_of, body_of, content_of, got_of, lost_of, metafail_of, worded, call_of, scripted_of, line_of, NoSpace, IsNumber, IsProtocol, IsPlace, IsAsked, AreKeys, IsKind, IsBody, SaysMeta, SaysGet, SaysGot, SaysLost, SaysMetafail, SaysCall, SaysScripted, SaysLimits, Says, ReadsAs}
 use Rattle.replay_script.specs.declared.grammar.TheConstants.{SPACE, BAR}
 

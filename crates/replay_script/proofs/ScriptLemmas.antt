@@ -3,19 +3,17 @@ use Rattle.std.proofs.Common.{◌≡◌, ℕ, ◌+◌, ◌<◌, ◌≤◌, ◌==
 use Rattle.std.specs.List.{list_all}
 use Rattle.std.specs.declared.option.Option.{Option}
 use Rattle.std.proofs.lemmas.Bool.{and_parts, and_left, and_right, cond-false, not-true, lt-leb, le-leb, leb-true, or_right}
-use Rattle.std.proofs.lemmas.List.Sums.{fold-append}
 use Rattle.std.specs.Option.{option_and_then}
-use Rattle.std.specs.Prelude.{IsTrue}
 use Rattle.cdni_base.specs.Limits.{Bounds}
 use Rattle.replay_script.specs.Call.{Calls, Said, Scripted, Sets}
 use Rattle.replay_script.specs.Grammar.{line_of}
-use Rattle.node_core.specs.Node.{NodeView, Stands}
+use Rattle.node_core.specs.Node.{NodeView}
 use Rattle.replay_script.specs.Lines.{Line, lines_of, whole_lines, is_whole, on_first, NoFeed}
 use Rattle.replay_script.specs.declared.step.TheConstants.{LINE_FEED, LINE_LIMIT}
 use Rattle.replay_script.specs.declared.step.TheConstants.{SCRIPT_LIMIT}
 use Rattle.replay_script.specs.declared.step.Stepped.{Stepped}
 use Rattle.replay_script.specs.declared.step.Stepped.TheVariants as stepped
-use Rattle.replay_script.specs.Script.{next_said, is_allowed, fits, Past, made_with, grown, answer_of, SetsLimits, Answers, StepsTo, TakesIn, Answered, with_text, answers_from}
+use Rattle.replay_script.specs.Script.{next_said, is_allowed, fits, Past, grown, answer_of, SetsLimits, Answers, StepsTo, Answered, with_text, answers_from}
 
 -- ---- lines
 

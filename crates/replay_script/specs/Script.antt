@@ -1,5 +1,5 @@
 -- A script and its answers.
-use Rattle.std.specs.Prelude.{◌≡◌, ℕ, ◌+◌, ◌<◌, Bool, true, IsTrue, List, [], ◌∷◌, ◌++◌, length, take, None, Some, ◌⊎◌, ◌&&◌, ◌==◌, false, codes, nat_le, if◌then◌else◌}
+use Rattle.std.specs.Prelude.{◌≡◌, ℕ, ◌+◌, Bool, true, IsTrue, List, [], ◌∷◌, ◌++◌, length, None, Some, ◌&&◌, ◌==◌, false, codes, nat_le, if◌then◌else◌}
 use Rattle.std.specs.Option.{option_and_then, option_map_or}
 use Rattle.std.specs.declared.option.Option.{Option}
 use Rattle.cdni_base.specs.Limits.{Bounds, default_limits}

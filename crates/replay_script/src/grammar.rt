@@ -53,11 +53,7 @@ fn read_words(alloc: Global, line: &[u8]) -> Result<Option<ScriptLine>, AllocErr
 
 // PASS MOMENT and a call, where the pass is read: its text, and what follows it
 #[tactic(auto, unfolding(crate::specs::Grammar::scripted_of))]
-fn read_scripted(
-    alloc: Global,
-    pass: &[u8],
-    rest: &[u8],
-) -> Result<Option<ScriptLine>, AllocError>
+fn read_scripted(alloc: Global, pass: &[u8], rest: &[u8]) -> Result<Option<ScriptLine>, AllocError>
     ensures { IfOk result (λ found. option_map said_of found ≡ scripted_of (pass.now, rest.now)) }
 {
     let Some(number) = read_below(4294967296, pass) else {

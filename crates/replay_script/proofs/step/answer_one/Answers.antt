@@ -1,7 +1,6 @@
-use Rattle.std.proofs.Common.{◌≡◌, sym, ◌∙◌, refl, Some}
+use Rattle.std.proofs.Common.{sym, ◌∙◌}
 use Rattle.replay_script.proofs.ScriptLemmas.{calls_steps, sets_steps}
-use Rattle.replay_script.specs.Call.{noted_of, Calls, Sets}
-use Rattle.replay_script.specs.Grammar.{line_of}
+use Rattle.replay_script.specs.Call.{noted_of}
 use Rattle.replay_script.proofs.step.answer_one.Goals as goal
 
 pub returns-in-Limits : goal.returns-in-Limits

@@ -1,0 +1,248 @@
+//! The answer lines of a script.
+
+ghost use Rattle.std.specs.Prelude.{◌≡◌, ◌++◌, ◌∷◌, [], OnOk, codes, decimal};
+ghost use Rattle.cdni_base.specs.Rule.{rule_status, rule_text};
+ghost use Rattle.replay_script.specs.declared.grammar.TheConstants.{SPACE};
+ghost use Rattle.replay_script.specs.declared.step.TheConstants.{LINE_FEED};
+ghost use Rattle.hex.specs.Hex.{encode_lower};
+ghost use Rattle.replay_script.specs.Answer.{kind_word, body_word, ended_text, numbered, endpoint_word, plan_text, cause_text, fault_text, failed_line, answer_line};
+
+use cdni_base::{Endpoint, HTTP_PORT, Rule};
+use history::Reply;
+use itoa::Buffer;
+use json_read::{FieldCause, FieldFault};
+use metadata_objects::MetaFault;
+use std::alloc::{AllocError, Global};
+
+// adds the answer line of the reply, where this was noted of the call
+#[tactic(auto, unfolding(crate::specs::Answer::answer_line))]
+pub(crate) fn put_answer(
+    alloc: Global,
+    out: &mut Vec<u8>,
+    reply: &Reply,
+    note: &Option<MetaFault>,
+) -> Result<(), AllocError>
+    ensures { OnOk result (out.new.items ≡ out.old.items ++ answer_line reply.now note.now) }
+{
+    match reply {
+        Reply::Denied { delivery, rule } => put_denied(out, *delivery, rule),
+        Reply::Miss {
+            delivery,
+            fetch,
+            plan,
+        } => put_miss(out, *delivery, *fetch, plan.as_slice()),
+        Reply::Hit {
+            delivery,
+            fetch,
+            kind,
+            body,
+        } => put_hit(alloc, out, *delivery, *fetch, kind.bytes(), body.bytes()),
+        Reply::Ended { kept } => put(out, ended_text(*kept)),
+        Reply::Full { count } => put_numbered(out, b"full", *count),
+        Reply::NotOpen { number } => put_numbered(out, b"not-open", *number),
+        Reply::Due { refresh } => put_numbered(out, b"due", *refresh),
+        Reply::NotDue { next } => put_numbered(out, b"not-due", *next),
+        Reply::Installed { generation } => put_numbered(out, b"installed", *generation),
+        Reply::Older { refresh } => put_numbered(out, b"older", *refresh),
+        Reply::Failed => put_failed(out, note),
+        _ => Ok(()),
+    }
+}
+
+fn put(out: &mut Vec<u8>, bytes: &[u8]) -> Result<(), AllocError>
+    ensures { OnOk result (out.new.items ≡ out.old.items ++ bytes.now) }
+{
+    out.extend_from_slice(bytes)
+}
+
+fn put_number(out: &mut Vec<u8>, number: u64) -> Result<(), AllocError>
+    ensures { OnOk result (out.new.items ≡ out.old.items ++ decimal number) }
+{
+    let mut digits = Buffer::new();
+    out.extend_from_slice(digits.format(number).as_bytes())
+}
+
+fn put_numbered(out: &mut Vec<u8>, word: &[u8], number: u64) -> Result<(), AllocError>
+    ensures { OnOk result (out.new.items ≡ out.old.items ++ numbered word.now number) }
+{
+    put(out, word)?;
+    put(out, b" ")?;
+    put_number(out, number)?;
+    put(out, b"\n")
+}
+
+fn put_failed(out: &mut Vec<u8>, note: &Option<MetaFault>) -> Result<(), AllocError>
+    ensures { OnOk result (out.new.items ≡ out.old.items ++ failed_line note.now) }
+{
+    let Some(fault) = note else {
+        return put(out, b"failed\n");
+    };
+    put(out, b"failed ")?;
+    put_fault(out, fault)?;
+    put(out, b"\n")
+}
+
+fn put_fault(out: &mut Vec<u8>, fault: &MetaFault) -> Result<(), AllocError>
+    ensures { OnOk result (out.new.items ≡ out.old.items ++ fault_text fault.now) }
+{
+    match fault {
+        MetaFault::TooLong { len } => put_word_number(out, b"too-long ", *len as u64),
+        MetaFault::NotJson => put(out, b"not-json"),
+        MetaFault::Link { path } => put_two(out, b"link ", path.bytes()),
+        MetaFault::Field(field) => put_field(out, field),
+        MetaFault::TooMany { n } => put_word_number(out, b"too-many ", *n as u64),
+        MetaFault::TooDeep { n } => put_word_number(out, b"too-deep ", *n as u64),
+        MetaFault::Memory => Ok(()),
+    }
+}
+
+fn put_field(out: &mut Vec<u8>, field: &FieldFault) -> Result<(), AllocError>
+    ensures { OnOk result (out.new.items ≡ out.old.items ++
+        (codes "field " ++ field.now.path ++ SPACE ∷ [] ++ cause_text field.now.cause)) }
+{
+    put(out, b"field ")?;
+    put(out, field.path.bytes())?;
+    put(out, b" ")?;
+    put(out, cause_text(field.cause))
+}
+
+fn cause_text(cause: FieldCause) -> &'static [u8]
+    ensures { result.now ≡ cause_text cause }
+{
+    match cause {
+        FieldCause::Missing => b"missing",
+        FieldCause::WrongKind => b"wrong-kind",
+        FieldCause::OutOfRange => b"out-of-range",
+    }
+}
+
+fn put_denied(out: &mut Vec<u8>, delivery: u64, rule: &Rule) -> Result<(), AllocError>
+    ensures { OnOk result (out.new.items ≡ out.old.items ++
+        (codes "denied " ++ decimal delivery ++ SPACE ∷ [] ++ decimal
+        (rule_status rule.now) ++ SPACE ∷ [] ++ rule_text rule.now ++ LINE_FEED ∷ [])) }
+{
+    put(out, b"denied ")?;
+    put_number(out, delivery)?;
+    put(out, b" ")?;
+    put_number(out, rule.status() as u64)?;
+    put(out, b" ")?;
+    put_rule(out, rule)?;
+    put(out, b"\n")
+}
+
+fn put_rule(out: &mut Vec<u8>, rule: &Rule) -> Result<(), AllocError>
+    ensures { OnOk result (out.new.items ≡ out.old.items ++ rule_text rule.now) }
+{
+    let mut digits = Buffer::new();
+    let (word, rest) = rule.text(&mut digits);
+    put_two(out, word, rest)
+}
+
+fn put_two(out: &mut Vec<u8>, first: &[u8], second: &[u8]) -> Result<(), AllocError>
+    ensures { OnOk result (out.new.items ≡ out.old.items ++ (first.now ++ second.now)) }
+{
+    put(out, first)?;
+    put(out, second)
+}
+
+fn put_word_number(out: &mut Vec<u8>, word: &[u8], number: u64) -> Result<(), AllocError>
+    ensures { OnOk result (out.new.items ≡ out.old.items ++ (word.now ++ decimal number)) }
+{
+    put(out, word)?;
+    put_number(out, number)
+}
+
+fn put_miss(
+    out: &mut Vec<u8>,
+    delivery: u64,
+    fetch: u64,
+    plan: &[Endpoint],
+) -> Result<(), AllocError>
+    ensures { OnOk result (out.new.items ≡ out.old.items ++
+        (codes "miss " ++ decimal delivery ++ SPACE ∷ [] ++ decimal fetch ++ plan_text plan.now ++ LINE_FEED ∷ [])) }
+{
+    put(out, b"miss ")?;
+    put_number(out, delivery)?;
+    put(out, b" ")?;
+    put_number(out, fetch)?;
+    put_plan(out, plan)?;
+    put(out, b"\n")
+}
+
+fn ended_text(kept: bool) -> &'static [u8]
+    ensures { result.now ≡ ended_text kept }
+{
+    if kept { b"ended kept\n" } else { b"ended\n" }
+}
+
+fn put_hit(
+    alloc: Global,
+    out: &mut Vec<u8>,
+    delivery: u64,
+    fetch: u64,
+    kind: &[u8],
+    body: &[u8],
+) -> Result<(), AllocError>
+    ensures { OnOk result (out.new.items ≡ out.old.items ++
+        (codes "hit " ++ decimal delivery ++ SPACE ∷ [] ++ decimal fetch ++ SPACE ∷ [] ++ kind_word kind.now
+        ++ SPACE ∷ [] ++ body_word body.now ++ LINE_FEED ∷ [])) }
+{
+    put(out, b"hit ")?;
+    put_number(out, delivery)?;
+    put(out, b" ")?;
+    put_number(out, fetch)?;
+    put(out, b" ")?;
+    put_kind(out, kind)?;
+    put(out, b" ")?;
+    put_body(alloc, out, body)?;
+    put(out, b"\n")
+}
+
+// the content type, or `-` where it is empty
+fn put_kind(out: &mut Vec<u8>, kind: &[u8]) -> Result<(), AllocError>
+    ensures { OnOk result (out.new.items ≡ out.old.items ++ kind_word kind.now) }
+{
+    if kind.is_empty() {
+        put(out, b"-")
+    } else {
+        put(out, kind)
+    }
+}
+
+// the body in lower-case hexadecimal digits, or `-` where it is empty
+fn put_body(alloc: Global, out: &mut Vec<u8>, body: &[u8]) -> Result<(), AllocError>
+    ensures { OnOk result (out.new.items ≡ out.old.items ++ body_word body.now) }
+{
+    if body.is_empty() {
+        put(out, b"-")
+    } else {
+        put_hex(alloc, out, body)
+    }
+}
+
+#[tactic(auto, unfolding(crate::specs::Answer::plan_text))]
+fn put_plan(out: &mut Vec<u8>, plan: &[Endpoint]) -> Result<(), AllocError>
+    ensures { OnOk result (out.new.items ≡ out.old.items ++ plan_text plan.now) }
+{
+    'endpoints: for endpoint in plan {
+        put_endpoint(out, endpoint)?;
+    }
+    Ok(())
+}
+
+fn put_endpoint(out: &mut Vec<u8>, endpoint: &Endpoint) -> Result<(), AllocError>
+    ensures { OnOk result (out.new.items ≡ out.old.items ++ endpoint_word endpoint.now) }
+{
+    put(out, b" ")?;
+    put(out, endpoint.host.bytes())?;
+    put(out, b":")?;
+    put_number(out, endpoint.port.unwrap_or(HTTP_PORT) as u64)
+}
+
+// two lower-case hexadecimal digits for each byte
+fn put_hex(alloc: Global, out: &mut Vec<u8>, bytes: &[u8]) -> Result<(), AllocError>
+    ensures { OnOk result (out.new.items ≡ out.old.items ++ encode_lower bytes.now) }
+{
+    let digits = hex::encode(alloc, bytes)?;
+    put(out, digits.as_bytes())
+}

@@ -1,0 +1,102 @@
+//! One line of a script.
+
+ghost use Rattle.std.specs.Prelude.{◌≡◌, ◌+◌};
+ghost use Rattle.replay_script.specs.Call.{noted_of};
+ghost use Rattle.replay_script.specs.Script.{fits, Answers, SetsLimits, StepsTo};
+
+use crate::answer::put_answer;
+use crate::call::{NotedCall, ScriptLine};
+use crate::grammar::read_line;
+use cdni_base::Limits;
+use node_core::Node;
+use std::alloc::Global;
+
+/// The byte that ends a line.
+pub const LINE_FEED: u8 = b'\n';
+
+/// A line of more bytes, its line feed counted, is no script line.
+pub const LINE_LIMIT: usize = 40_000_000;
+
+/// No line ends past this byte of a script.
+pub const SCRIPT_LIMIT: u64 = 1 << 40;
+
+/// What a line of the script gave.
+#[derive(Clone, Copy, Debug, PartialEq, Eq)]
+pub enum Stepped {
+    /// An answer.
+    Answered,
+    /// It is no script line.
+    NotALine,
+    /// Want of memory.
+    Memory,
+}
+
+/// Answers the line that begins at this byte of the script, counted from 0, and is its first one or not. The answer takes
+/// the place of what was there. A line `limits` of the first line begins anew with a node of these limits.
+#[tactic(auto, unfolding(crate::specs::Script::next_said))]
+pub fn answer_one(
+    alloc: Global,
+    node: &mut Node,
+    first: bool,
+    at: u64,
+    line: &[u8],
+    answer: &mut Vec<u8>,
+) -> Stepped
+    ensures { StepsTo node.old node.new first at line.now answer.new.items result }
+{
+    if !is_in_limits(at, line.len()) {
+        return Stepped::NotALine;
+    }
+    let line = match read_line(alloc, line) {
+        Ok(Some(line)) => line,
+        Ok(None) => return Stepped::NotALine,
+        Err(_) => return Stepped::Memory,
+    };
+    answer.clear();
+    match line {
+        ScriptLine::Limits { limits } => set_limits(alloc, node, first, limits),
+        ScriptLine::Call { pass, noted } => answer_call(alloc, node, pass, noted, answer),
+    }
+}
+
+// begins anew under these limits, where the line is the first one
+fn set_limits(alloc: Global, node: &mut Node, first: bool, limits: Limits) -> Stepped
+    ensures { SetsLimits node.new first limits result }
+{
+    if !first {
+        return Stepped::NotALine;
+    }
+    match Node::new(alloc, limits) {
+        Ok(made) => {
+            *node = made;
+            Stepped::Answered
+        }
+        Err(_) => Stepped::Memory,
+    }
+}
+
+// takes the call in, and adds its answer
+fn answer_call(
+    alloc: Global,
+    node: &mut Node,
+    pass: u32,
+    noted: NotedCall,
+    answer: &mut Vec<u8>,
+) -> Stepped
+    ensures { Answers node.old node.new (pass, noted_of noted) answer.old.items answer.new.items result }
+{
+    let Ok(reply) = node.call(alloc, pass, noted.call) else {
+        return Stepped::Memory;
+    };
+    match put_answer(alloc, answer, &reply, &noted.note) {
+        Ok(()) => Stepped::Answered,
+        Err(_) => Stepped::Memory,
+    }
+}
+
+// whether a line of this length, its line feed not counted, ends within the limits
+fn is_in_limits(at: u64, length: usize) -> bool
+    ensures { result ≡ fits at (length + 1) }
+{
+    length < LINE_LIMIT && at <= SCRIPT_LIMIT && at + length as u64 + 1 <= SCRIPT_LIMIT
+}

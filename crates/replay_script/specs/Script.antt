@@ -80,7 +80,7 @@ answers_read bytes = answers_of (whole_lines bytes)
 
 -- ---- one line
 
--- the core begins anew under these limits, where they stand in the first line
+-- the node begins anew under these limits, where they stand in the first line
 abbrev pub SetsLimits : NodeView → Bool → Bounds → Stepped → Type 0
 SetsLimits new first limits stepped.Answered =
     (first ≡ true) × Stands new (made_with limits).made (made_with limits).entries
@@ -95,7 +95,7 @@ Answers old new scripted before now stepped.Answered = (past : Past) → Stands 
 Answers old new scripted before now stepped.NotALine = ⊥
 Answers old new scripted before now stepped.Memory = Unit {0}
 
--- the core stands for what the lines made with this one, and this is its answer
+-- the node stands for what the lines made with this one, and this is its answer
 abbrev pub TakesIn : NodeView → Past → Said → List ℕ → Type 0
 TakesIn new past said answer =
     Stands new (grown past said).made (grown past said).entries × (answer ≡ answer_of past said)

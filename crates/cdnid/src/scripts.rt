@@ -1,7 +1,7 @@
 //! Scripts with the answers and the status that they must have: its name, its text, its answers, and its status's
 //! number.
 
-pub const SCRIPTS: [(&str, &str, &str, u8); 78] = [
+pub const SCRIPTS: [(&str, &str, &str, u8); 109] = [
     ("an empty script", "", "", 0),
     (
         "no host",
@@ -438,6 +438,157 @@ pub const SCRIPTS: [(&str, &str, &str, u8); 78] = [
         "an index with paths, lists, cache and grouping",
         "0 1000 refresh\n0 1000 meta 1 http://up.example/i {\"hosts\":[{\"host\":\"video.example.com\",\"host-metadata\":{\"metadata\":[{\"generic-metadata-type\":\"MI.SourceMetadata\",\"generic-metadata-value\":{\"sources\":[{\"endpoints\":[\"acq1.ucdn.example\",\"acq2.ucdn.example\"],\"protocol\":\"http/1.1\"}]}},{\"generic-metadata-type\":\"MI.LocationACL\",\"generic-metadata-value\":{\"locations\":[{\"footprints\":[{\"footprint-type\":\"ipv4cidr\",\"footprint-value\":[\"192.0.2.0/24\"]},{\"footprint-type\":\"ipv6cidr\",\"footprint-value\":[\"2001:db8::/32\"]},{\"footprint-type\":\"countrycode\",\"footprint-value\":[\"us\"]},{\"footprint-type\":\"asn\",\"footprint-value\":[\"as64496\"]}],\"action\":\"allow\"}]}},{\"generic-metadata-type\":\"MI.Cache\",\"generic-metadata-value\":{\"ignore-query-string\":[\"sessionid\",\"random\"]}},{\"generic-metadata-type\":\"MI.Grouping\",\"generic-metadata-value\":{\"ccid\":\"ABCD\"}}],\"paths\":[{\"path-pattern\":{\"pattern\":\"/video/trailers/*\"},\"path-metadata\":{\"metadata\":[{\"generic-metadata-type\":\"MI.LocationACL\",\"generic-metadata-value\":{}}]}},{\"path-pattern\":{\"pattern\":\"/video/movies/*\",\"case-sensitive\":true},\"path-metadata\":{\"metadata\":[],\"paths\":[{\"path-pattern\":{\"pattern\":\"/video/movies/hd/*\"},\"path-metadata\":{\"metadata\":[{\"generic-metadata-type\":\"MI.ProtocolACL\",\"generic-metadata-value\":{\"protocol-acl\":[{\"protocols\":[\"https/1.1\"],\"action\":\"allow\"}]}}]}}]}}]}}]}\n0 2000 get GET http/1.1 198.51.100.1 - - http://video.example.com/video/trailers/a\n0 2000 get GET http/1.1 198.51.100.1 - - http://video.example.com/video/a\n0 2000 get GET http/1.1 198.51.100.1 - us http://video.example.com/video/a\n0 2000 get GET http/1.1 192.0.2.255 - - http://video.example.com/video/movies/hd/1\n0 2000 get GET https/1.1 2001:db8:ffff:: - - http://video.example.com/video/movies/hd/1\n0 2000 get GET http/1.1 198.51.100.1 as64496 - http://video.example.com/VIDEO/movies/hd/1\n",
         "due 1\ninstalled 1\nmiss 1 1 acq1.ucdn.example:80 acq2.ucdn.example:80\ndenied 2 403 location -\nmiss 3 2 acq1.ucdn.example:80 acq2.ucdn.example:80\ndenied 4 403 protocol -\nmiss 5 3 acq1.ucdn.example:80 acq2.ucdn.example:80\nmiss 6 4 acq1.ucdn.example:80 acq2.ucdn.example:80\n",
+        0,
+    ),
+    (
+        "the object of a later fetch stays",
+        "0 1000 refresh\n0 1000 meta 1 http://up.example/i {\"hosts\":[{\"host\":\"v.example\",\"host-metadata\":{\"metadata\":[{\"generic-metadata-type\":\"MI.SourceMetadata\",\"generic-metadata-value\":{\"sources\":[{\"endpoints\":[\"o.example\"],\"protocol\":\"http/1.1\"}]}}]}}]}\n0 2000 get GET http/1.1 192.0.2.7 as64496 us http://v.example/a\n0 2000 get GET http/1.1 192.0.2.7 as64496 us http://v.example/a\n0 2000 got 2 200 - 62\n0 2000 got 1 200 - 61\n0 2000 get GET http/1.1 192.0.2.7 as64496 us http://v.example/a\n",
+        "due 1\ninstalled 1\nmiss 1 1 o.example:80\nmiss 2 2 o.example:80\nended kept\nended\nhit 3 2 - 62\n",
+        0,
+    ),
+    (
+        "the least recently used leave",
+        "limits 6 10 10 1 60000 1000\n0 1000 refresh\n0 1000 meta 1 http://up.example/i {\"hosts\":[{\"host\":\"v.example\",\"host-metadata\":{\"metadata\":[{\"generic-metadata-type\":\"MI.SourceMetadata\",\"generic-metadata-value\":{\"sources\":[{\"endpoints\":[\"o.example\"],\"protocol\":\"http/1.1\"}]}}]}}]}\n0 2000 get GET http/1.1 192.0.2.7 as64496 us http://v.example/a\n0 2000 got 1 200 - 616161\n0 2000 get GET http/1.1 192.0.2.7 as64496 us http://v.example/b\n0 2000 got 2 200 - 626262\n0 2000 get GET http/1.1 192.0.2.7 as64496 us http://v.example/c\n0 2000 got 3 200 - 63\n0 2000 get GET http/1.1 192.0.2.7 as64496 us http://v.example/b\n0 2000 get GET http/1.1 192.0.2.7 as64496 us http://v.example/a\n0 2000 got 4 200 - 61616161616161\n0 2000 get GET http/1.1 192.0.2.7 as64496 us http://v.example/b\n0 2000 get GET http/1.1 192.0.2.7 as64496 us http://v.example/c\n",
+        "due 1\ninstalled 1\nmiss 1 1 o.example:80\nended kept\nmiss 2 2 o.example:80\nended kept\nmiss 3 3 o.example:80\nended kept\nhit 4 2 - 626262\nmiss 5 4 o.example:80\nended\nhit 6 2 - 626262\nhit 7 3 - 63\n",
+        0,
+    ),
+    (
+        "two open deliveries at most, and refreshes of two passes",
+        "limits 1000 2 10000 64 1000 4611686018427387904\n1 1368751079745 get GETT http/1.1 0.0.0.0 - fr http://w.example/a*?=&session\n1 1368751080212 get HEAD http/1.1 255.255.255.255 as64500 fr http://w.example:65535/free/y/z\n0 1368751080385 get HEAD http/1.1 ::ffff:192.0.2.7 - fr http://w.example/b?=&session\n1 1368751082100 get GET http/1.1 :: as64500 fr http://w.example:443/b\n0 1368751083890 refresh\n1 1368751085325 refresh\n0 1368751086334 refresh\n0 1368751087003 meta 3 http://UP.example/i?x=1|http://UP.example/i?x=1 {\"hosts\"\r:[]}\n0 1368751088162 get GET http/1.1 ::ffff:192.0.2.7 - fr http://w.example/?B=2&b=3\n0 1368751088831 get GET http/1.1 0.0.0.0 as0 us http://w.example/b?b=2&a=1\n",
+        "denied 1 405 method\ndenied 2 503 no-metadata\nfull 2\nfull 2\ndue 1\ndue 2\ndue 3\ninstalled 1\nfull 2\nfull 2\n",
+        0,
+    ),
+    (
+        "metadata that did not come, of a refresh that is not open",
+        "0 253402300800001 get GET http/1.1 :: - de http://w.example/MOVIES/A%2fB?B=2&b=3\n4294967295 1000 get GET http/1.1 :: - - http://w.example/movies/a%2Fb?A=1&session=3\n4294967295 1000 get GET http/1.1 :: as0 de http://w.example/movies/a%2Fb?=&session\n1 1000 get GET http/1.1 :: as4294967295 fr http://w.ExampLE/movies/a%2Fb?=&session\n4294967295 1000 metafail 0\n0 1000 get GET http/1.1 203.0.113.9 - - http://w.example/MOVIES/A%2fB?=&session\n4294967295 1000 get GET http/1.1 0.0.0.0 - - http://w.example/MOVIES/A%2fB\n4294967295 1000 get HEAD http/1.1 203.0.113.9 as0 de http://w.example/movies/a%2Fb?B=2&b=3\n1 1000 get GET http/1.1 0.0.0.0 - - http://w.example/MOVIES/A%2fB?=&session\n0 1000 refresh\n",
+        "denied 1 503 no-metadata\ndenied 2 503 no-metadata\ndenied 3 503 no-metadata\ndenied 4 503 no-metadata\nnot-open 0\ndenied 5 503 no-metadata\ndenied 6 503 no-metadata\ndenied 7 503 no-metadata\ndenied 8 503 no-metadata\ndue 1\n",
+        0,
+    ),
+    (
+        "a hit of another pass",
+        "1 1229 get GET http/1.1 203.0.113.9 - de http://w.example/free/x\n0 1221 refresh\n0 1 get GET http/1.1 ::ffff:192.0.2.7 as4294967295 de http://w.example/free/x\n1 3237 refresh\n1 4196 get GET http/1.1 ::1 as4294967295 de http://w.example/AB\n0 5158 meta 1 http://up.example/j {\"hosts\":[{\"host\":\"w.EXAmpLe\",\"host-metadata\":{\"metadata\":[{\"generic-metadata-type\":\"MI.SourceMetadata\",\"generic-metadata-value\":{\"sources\":[{\"endpoints\":[\"o.example\"],\"protocol\":\"http/1.1\"}]}},{\"generic-metadata-type\":\"MI.Cache\",\"generic-metadata-value\":{}}]}}]}\n1 5364 get GET http/1.1 ::ffff:192.0.2.7 - de http://w.example/AB\n1 7094 got 1 200 video/mp4 61\n4294967295 6979 get GET http/1.1 ::ffff:192.0.2.7 as64496 de http://w.example/AB\n1 8395 get GET http/1.1 ::1 as4294967295 de http://w.example/AB?\n",
+        "denied 1 503 no-metadata\ndue 1\ndenied 2 503 no-metadata\ndue 2\ndenied 3 503 no-metadata\ninstalled 1\nmiss 4 1 o.example:80\nended kept\nhit 5 1 video/mp4 61\nmiss 6 2 o.example:80\n",
+        0,
+    ),
+    (
+        "a fetch that never began",
+        "0 1781 get GET http/1.1 198.51.100.1 - de https://img.v.example/free/y/z\n0 3004 refresh\n0 2889 meta 1 http://up.example/i|http://UP.example/i?x=1|http://UP.example/i?x=1|http://UP.example/i?x=1 {\"hosts\":[{\"host\":\"img.v.example\",\"host-metadata\":{\"metadata\":[{\"generic-metadata-type\":\"MI.SourceMetadata\",\"generic-metadata-value\":{\"sources\":[]}},{\"generic-metadata-type\":\"MI.Cache\",\"generic-metadata-value\":{\"ignore-query-string\":[\"session\"]}},{\"generic-metadata-type\":\"MI.Grouping\",\"generic-metadata-value\":{\"ccid\":\"grp2\"}}]}}]}\n1 3633 got 0 410 - 30313233343536373839\n0 5433 get GET https/1.1 :: - us http://img.v.example/c?session=10\n0 5261 get GET https/1.1 :: as0 us https://img.v.ExAmplE/free/y/z?session=10\n0 5576 get GET http/1.1 198.51.100.1 as64496 us https://img.v.example/free/x\n0 6215 get GET http/1.1 :: as0 fr http://img.v.example/free/x?a=1&&b=2\n1 7169 get GET https/1.1 :: - fr https://img.v.example/b?session=10\n1 7828 get GET https/1.1 2001:db8::1 - us http://img.v.example/free/y/z\n",
+        "denied 1 503 no-metadata\ndue 1\ninstalled 1\nnot-open 0\ndenied 2 503 no-source\ndenied 3 503 no-source\ndenied 4 503 no-source\ndenied 5 503 no-source\ndenied 6 503 no-source\ndenied 7 503 no-source\n",
+        0,
+    ),
+    (
+        "a type of 127 bytes, and three open deliveries at most",
+        "limits 10 3 8 2 60000 4611686018427387904\n1 1093 refresh\n1 2123 get HEAD http/1.1 203.0.113.9 as0 de htTp://img.v.example/a$b\n1 2256 meta 1 http://up.example/i  \t{\r\"hosts\":[{\"host\":\"img.v.example\",\"host-metadata\":{\"metadata\":[{\r\"generic-metadata-type\":\"MI.Grouping\",\r\"generic-metadata-value\"\t:{\"ccid\":\"a\\\"b\"},\"safe-to-redistribute\":true},{\"generic-metadata-type\" :\"MI.SourceMetadata\",\"generic-metadata-value\":{\"sources\":[{\"endpoints\":[\"o.e\\u0078ample:\"],\"protocol\"\r:\"http/1.1\"}\r,{\"endpoints\":[\"o.example:\"],\"protocol\":\"http/1\\u002e1\"}]}}]}}]}\n1 4207 get GETT http/1.1 203.0.113.9 as4294967295 - http://img.v.example/seg/2.ts\n1 5372 get GET http/1.1 203.0.113.9 - fr http://img.v.example/q~!$&'()*+,;=:@\n1 7050 got 1 200 ~~~~~~~~~~~~~~~~~~~~~~~~~~~~~~~~~~~~~~~~~~~~~~~~~~~~~~~~~~~~~~~~~~~~~~~~~~~~~~~~~~~~~~~~~~~~~~~~~~~~~~~~~~~~~~~~~~~~~~~~~~~~~~~ -\n0 7105 get GET http/1.1 0.0.0.0 - de http://iMG.v.eXAMPLe/q~!$&'()*+,;=:@\n0 8826 get HEAD http/1.1 ::1 as4294967295 - http://img.v.example/q~!$&'()*+,;=:@\n0 10558 get GET http/1.1 ::1 - de http://img.v.example/q~!$&'()*+,;=:@\n0 10769 get GET http/1.1 1:2:3:4:5:6:7:8 as0 - http://img.v.example/q~!$&'()*+,;=:@\n",
+        "due 1\ndenied 1 503 no-metadata\ninstalled 1\ndenied 2 405 method\nmiss 3 1 o.example:80 o.example:80\nended kept\nfull 3\nfull 3\nfull 3\nfull 3\n",
+        0,
+    ),
+    (
+        "a period of a day",
+        "limits 3 1 1 3 86400000 23\n0 100000 refresh\n4294967295 100000 get GET http/1.1 255.255.255.255 as64496 us http://A_b-C.example/free/x\n0 100000 meta 1 http://up.example/j|http://UP.example/i?x=1 \t{\"hosts\":[{\"host\":\"A_b-C.example\",\"host-metadata\"\r:{\"m\\u0065tadata\":[{\"generic-metadata-type\":\r\"MI.SourceMetadata\",\"generic-metadata-value\":{\"sources\":[{\"endpoints\":[\"o.example\"],\"protocol\":\"http/1.1\"\r},{\"endpoints\":[\"[::1]:443\",\"O2.example:8080\"],\"protocol\":\"http/1.1\"}]}}],\"paths\"  :[{\r\"path-pattern\":{\"pattern\":\"*\"  },\"path-metadata\":{\"metadata\":\r[{\"generic-metadata-type\"\r:\"mI.soURcemeTADAtA\",\"generic-metadata-value\":{\"sources\" \t:[{\"endpoints\":[\"o.example:\"],\"protocol\":\"https/1.1\"},{\"protocol\":\"http/1.1\",\t\"endpoints\":[\"[::1]:443\"]}]},\r\"incomprehensible\":false},\r{\"generic-metadata-type\"  :\"MI.Auth\",\"generic-metadata-value\"\r:[],\"mandatory-to-enforce\":true}]}\t},{\"path-pattern\":{\"p\\u0061ttern\":\"\"},\"path-metadata\":\t{\"metadata\"\r:[{\"generic-metadata-type\":\"MI.Grouping\",\"generic-metadata-value\"\r:{\"ccid\":\"é\"}} \t]}} \t,  {\"pat\\u0068-patt\\u0065rn\":{\"pattern\":\"/a/\"},\"path-metadata\":{\"metadata\":\t[{\t\"ge\\u006eeric-metadata-type\":\"MI.TimeWindowACL\",\"generic-metadata-value\":{\"times\":[{\"windows\":[],\"act\\u0069on\":\"allow\"},{\"action\":\"allow\",\"windows\":[{\"start\":0,\"end\":9007199254740992}]}]}},{  \"safe-to-redistribute\":false \t,\"generic-metadata-value\":{\"locations\":[{\"footprints\":\r[]\r,\"action\":\"deny\"}  ,{\"action\":\"allow\",\"footprints\"\t:[{\"footprint-type\"\r:\"ipv4cidr\",\"footprint-value\"\t:[\"1.2.3.4/0\"]},{\"footprint-type\":\"ipv6cidr\",\"footprint-value\":[\"::/0\"]}]}]},\"generic-m\\u0065tadata-type\":\"MI.Locat\\u0069onACL\"}]}}]}}]}\n1 100000 refresh\n0 100000 refresh\n0 100000 refresh\n0 100000 get GET http/1.1 ::1 as64496 fr http://A_b-C.example:80/movies/x.mp4?a=1&&b=2\n4294967295 100000 refresh\n1 100000 get GET http/1.1 203.0.113.9 as64496 - htTP://A_b-C.example/free/x\n4294967295 100000 get GETT http/1.1 1:2:3:4:5:6:7:8 as4294967295 fr http://A_b-C.example/free/x\n",
+        "due 1\ndenied 1 503 no-metadata\ninstalled 1\nnot-due 86500000\nnot-due 86500000\nnot-due 86500000\nfull 1\nnot-due 86500000\nfull 1\nfull 1\n",
+        0,
+    ),
+    ("limits alone", "limits 0 1 1 1 0 1\n", "", 0),
+    (
+        "the greatest limits",
+        "limits 1073741824 100000 10000 64 86400000 4611686018427387904\n",
+        "",
+        0,
+    ),
+    (
+        "a cache above its range",
+        "limits 1073741825 1 1 1 0 1\n",
+        "",
+        1,
+    ),
+    ("no rows", "limits 0 0 1 1 0 1\n", "", 1),
+    ("rows above their range", "limits 0 100001 1 1 0 1\n", "", 1),
+    (
+        "triggers above their range",
+        "limits 0 1 10001 1 0 1\n",
+        "",
+        1,
+    ),
+    ("files above their range", "limits 0 1 1 65 0 1\n", "", 1),
+    (
+        "a period above its range",
+        "limits 0 1 1 1 86400001 1\n",
+        "",
+        1,
+    ),
+    ("nothing is opened", "limits 0 1 1 1 0 0\n", "", 1),
+    (
+        "openings above their range",
+        "limits 0 1 1 1 0 4611686018427387905\n",
+        "",
+        1,
+    ),
+    ("five limits", "limits 0 1 1 1 0\n", "", 1),
+    ("seven limits", "limits 0 1 1 1 0 1 1\n", "", 1),
+    (
+        "limits in the second line",
+        "0 1000 refresh\nlimits 6 10 10 1 60000 1000\n",
+        "due 1\n",
+        1,
+    ),
+    (
+        "limits a second time",
+        "limits 6 10 10 1 60000 1000\nlimits 6 10 10 1 60000 1000\n",
+        "",
+        1,
+    ),
+    (
+        "a got of another status",
+        "0 1000 refresh\n0 1000 meta 1 http://up.example/i {\"hosts\":[{\"host\":\"v.example\",\"host-metadata\":{\"metadata\":[{\"generic-metadata-type\":\"MI.SourceMetadata\",\"generic-metadata-value\":{\"sources\":[{\"endpoints\":[\"o.example\"],\"protocol\":\"http/1.1\"}]}}]}}]}\n0 2000 get GET http/1.1 192.0.2.7 as64496 us http://v.example/a\n0 2000 got 1 500 - 61\n",
+        "due 1\ninstalled 1\nmiss 1 1 o.example:80\n",
+        1,
+    ),
+    (
+        "an odd number of digits",
+        "0 1000 refresh\n0 1000 meta 1 http://up.example/i {\"hosts\":[{\"host\":\"v.example\",\"host-metadata\":{\"metadata\":[{\"generic-metadata-type\":\"MI.SourceMetadata\",\"generic-metadata-value\":{\"sources\":[{\"endpoints\":[\"o.example\"],\"protocol\":\"http/1.1\"}]}}]}}]}\n0 2000 get GET http/1.1 192.0.2.7 as64496 us http://v.example/a\n0 2000 got 1 200 - 616\n",
+        "due 1\ninstalled 1\nmiss 1 1 o.example:80\n",
+        1,
+    ),
+    (
+        "no digits",
+        "0 1000 refresh\n0 1000 meta 1 http://up.example/i {\"hosts\":[{\"host\":\"v.example\",\"host-metadata\":{\"metadata\":[{\"generic-metadata-type\":\"MI.SourceMetadata\",\"generic-metadata-value\":{\"sources\":[{\"endpoints\":[\"o.example\"],\"protocol\":\"http/1.1\"}]}}]}}]}\n0 2000 get GET http/1.1 192.0.2.7 as64496 us http://v.example/a\n0 2000 got 1 200 - \n",
+        "due 1\ninstalled 1\nmiss 1 1 o.example:80\n",
+        1,
+    ),
+    (
+        "a type of 128 bytes",
+        "0 1000 refresh\n0 1000 meta 1 http://up.example/i {\"hosts\":[{\"host\":\"v.example\",\"host-metadata\":{\"metadata\":[{\"generic-metadata-type\":\"MI.SourceMetadata\",\"generic-metadata-value\":{\"sources\":[{\"endpoints\":[\"o.example\"],\"protocol\":\"http/1.1\"}]}}]}}]}\n0 2000 get GET http/1.1 192.0.2.7 as64496 us http://v.example/a\n0 2000 got 1 200 kkkkkkkkkkkkkkkkkkkkkkkkkkkkkkkkkkkkkkkkkkkkkkkkkkkkkkkkkkkkkkkkkkkkkkkkkkkkkkkkkkkkkkkkkkkkkkkkkkkkkkkkkkkkkkkkkkkkkkkkkkkkkkkk 61\n",
+        "due 1\ninstalled 1\nmiss 1 1 o.example:80\n",
+        1,
+    ),
+    (
+        "digits of either case, and an empty body",
+        "0 1000 refresh\n0 1000 meta 1 http://up.example/i {\"hosts\":[{\"host\":\"v.example\",\"host-metadata\":{\"metadata\":[{\"generic-metadata-type\":\"MI.SourceMetadata\",\"generic-metadata-value\":{\"sources\":[{\"endpoints\":[\"o.example\"],\"protocol\":\"http/1.1\"}]}}]}}]}\n0 2000 get GET http/1.1 192.0.2.7 as64496 us http://v.example/a\n0 2000 get GET http/1.1 192.0.2.7 as64496 us http://v.example/b\n0 2000 got 1 200 text/html aBcD\n0 2000 got 2 200 - -\n0 2000 get GET http/1.1 192.0.2.7 as64496 us http://v.example/a\n0 2000 get GET http/1.1 192.0.2.7 as64496 us http://v.example/b\n",
+        "due 1\ninstalled 1\nmiss 1 1 o.example:80\nmiss 2 2 o.example:80\nended kept\nended kept\nhit 3 1 text/html abcd\nhit 4 2 - -\n",
+        0,
+    ),
+    (
+        "nothing but a 200 is kept",
+        "0 1000 refresh\n0 1000 meta 1 http://up.example/i {\"hosts\":[{\"host\":\"v.example\",\"host-metadata\":{\"metadata\":[{\"generic-metadata-type\":\"MI.SourceMetadata\",\"generic-metadata-value\":{\"sources\":[{\"endpoints\":[\"o.example\"],\"protocol\":\"http/1.1\"}]}}]}}]}\n0 2000 get GET http/1.1 192.0.2.7 as64496 us http://v.example/a\n0 2000 got 1 404 - 61\n0 2000 get GET http/1.1 192.0.2.7 as64496 us http://v.example/a\n0 2000 got 2 410 - 61\n0 2000 get GET http/1.1 192.0.2.7 as64496 us http://v.example/a\n0 2000 lost 3\n0 2000 get GET http/1.1 192.0.2.7 as64496 us http://v.example/a\n",
+        "due 1\ninstalled 1\nmiss 1 1 o.example:80\nended\nmiss 2 2 o.example:80\nended\nmiss 3 3 o.example:80\nended\nmiss 4 4 o.example:80\n",
+        0,
+    ),
+    (
+        "another pass ends no fetch",
+        "0 1000 refresh\n0 1000 meta 1 http://up.example/i {\"hosts\":[{\"host\":\"v.example\",\"host-metadata\":{\"metadata\":[{\"generic-metadata-type\":\"MI.SourceMetadata\",\"generic-metadata-value\":{\"sources\":[{\"endpoints\":[\"o.example\"],\"protocol\":\"http/1.1\"}]}}]}}]}\n0 2000 get GET http/1.1 192.0.2.7 as64496 us http://v.example/a\n1 2000 got 1 200 - 61\n1 2000 lost 1\n0 2000 get GET http/1.1 192.0.2.7 as64496 us http://v.example/a\n0 2000 got 1 200 - 61\n0 2000 got 1 200 - 62\n0 2000 get GET http/1.1 192.0.2.7 as64496 us http://v.example/a\n",
+        "due 1\ninstalled 1\nmiss 1 1 o.example:80\nnot-open 1\nnot-open 1\nmiss 2 2 o.example:80\nended kept\nnot-open 1\nhit 3 1 - 61\n",
+        0,
+    ),
+    (
+        "a body that fits exactly, and one of a byte more",
+        "limits 2 10 10 1 60000 1000\n0 1000 refresh\n0 1000 meta 1 http://up.example/i {\"hosts\":[{\"host\":\"v.example\",\"host-metadata\":{\"metadata\":[{\"generic-metadata-type\":\"MI.SourceMetadata\",\"generic-metadata-value\":{\"sources\":[{\"endpoints\":[\"o.example\"],\"protocol\":\"http/1.1\"}]}}]}}]}\n0 2000 get GET http/1.1 192.0.2.7 as64496 us http://v.example/a\n0 2000 got 1 200 - 6161\n0 2000 get GET http/1.1 192.0.2.7 as64496 us http://v.example/a\n0 2000 get GET http/1.1 192.0.2.7 as64496 us http://v.example/b\n0 2000 got 2 200 - 616161\n0 2000 get GET http/1.1 192.0.2.7 as64496 us http://v.example/b\n0 2000 get GET http/1.1 192.0.2.7 as64496 us http://v.example/a\n",
+        "due 1\ninstalled 1\nmiss 1 1 o.example:80\nended kept\nhit 2 1 - 6161\nmiss 3 2 o.example:80\nended\nmiss 4 3 o.example:80\nhit 5 1 - 6161\n",
+        0,
+    ),
+    (
+        "metadata that did not come",
+        "0 1000 refresh\n0 1000 metafail 1\n0 1000 metafail 1\n0 2000 get GET http/1.1 192.0.2.7 as64496 us http://v.example/a\n",
+        "due 1\nfailed\nnot-open 1\ndenied 1 503 no-metadata\n",
         0,
     ),
 ];

@@ -9,11 +9,11 @@ use Rattle.std.proofs.Math.Seq.{take-length}
 use Rattle.std.proofs.lemmas.List.{take-append-drop, drop-take, drop-drop, length-take, length-drop, get_or-take, take-take}
 use Rattle.std.proofs.lemmas.List.Folds.{list_all-append}
 use Rattle.memchr.specs.Find.{IsFirstByte, is_byte}
-use Rattle.http_node.specs.Lines.{NoFeed}
+use Rattle.replay_script.specs.Lines.{NoFeed}
 use Rattle.http_node.specs.Ahead.{Moves, EndsLine, Goes, StaysShort, TakesPiece}
 use Rattle.http_node.specs.declared.ahead.Piece.TheVariants as piece
 use Rattle.http_node.specs.declared.ahead.TheConstants.{READ_SIZE}
-use Rattle.http_node.specs.declared.lines.TheConstants.{LINE_FEED, LINE_LIMIT}
+use Rattle.replay_script.specs.declared.step.TheConstants.{LINE_FEED, LINE_LIMIT}
 
 abbrev plain : ℕ → Bool
 plain byte = not (byte == LINE_FEED)

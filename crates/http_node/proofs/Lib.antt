@@ -1,7 +1,3 @@
 mod AheadLemmas
 mod BatchLemmas
-mod GrammarLemmas
-mod HistoryLemmas
-mod NumberLemmas
 mod ReplayLemmas
-mod ScriptLemmas

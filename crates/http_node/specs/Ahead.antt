@@ -5,12 +5,12 @@ use Rattle.std.specs.Io.KnownBytes.{Consumes, Keeps, IsAtEnd}
 use Rattle.edge_base.specs.Causes.{Rose}
 use Rattle.edge_base.specs.declared.source.Took.{Took}
 use Rattle.edge_base.specs.declared.source.Took.TheVariants as took
-use Rattle.http_node.specs.Lines.{NoFeed}
+use Rattle.replay_script.specs.Lines.{NoFeed}
 use Rattle.http_node.specs.declared.ahead.LineRead.{LineRead}
 use Rattle.http_node.specs.declared.ahead.LineRead.TheVariants as line_read
 use Rattle.http_node.specs.declared.ahead.Piece.{Piece}
 use Rattle.http_node.specs.declared.ahead.Piece.TheVariants as piece
-use Rattle.http_node.specs.declared.lines.TheConstants.{LINE_FEED, LINE_LIMIT}
+use Rattle.replay_script.specs.declared.step.TheConstants.{LINE_FEED, LINE_LIMIT}
 
 -- these bytes were taken off the front of what was read ahead and then of what the source had left
 pub record Moves (old new : Option (List ℕ)) (before after bytes : List ℕ) : Type 0 where

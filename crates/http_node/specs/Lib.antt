@@ -1,10 +1,5 @@
-pub mod Admission
 pub mod Ahead
-pub mod Answer
 pub mod Batch
-pub mod Call
-pub mod Grammar
-pub mod History
 pub mod Lines
 pub mod Note
-pub mod Script
+pub mod Replay

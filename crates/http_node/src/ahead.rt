@@ -4,9 +4,9 @@ ghost use Rattle.std.specs.Prelude.{◌≡◌, ℕ, ◌<◌, ◌≤◌, true, fa
 ghost use Rattle.http_node.specs.Ahead.{EndsLine, Refills, TakesPiece, ReadsLine, HasLineCause};
 ghost use Rattle.edge_base.specs.Source.{HasReadCause};
 
-use crate::lines::{LINE_FEED, LINE_LIMIT};
 use edge_base::{Source, Took};
 use memchr::memchr;
+use replay_script::{LINE_FEED, LINE_LIMIT};
 use std::alloc::{AllocError, Global};
 use std::marker::Model;
 

@@ -3,12 +3,12 @@
 ghost use Rattle.std.specs.Prelude.{◌≡◌, ◌≢◌, ◌≤◌, ◌⊎◌, ◌↔◌, [], true, false, None, IfSome};
 ghost use Rattle.std.specs.Io.KnownBytes.{Appends, Keeps};
 ghost use Rattle.edge_base.specs.Causes.{Rose};
-ghost use Rattle.http_node.specs.Script.{answers};
+ghost use Rattle.replay_script.specs.Script.{answers};
 ghost use Rattle.http_node.specs.Batch.{is_replay, status_of, Replays, ReadsScript, MeetsNone};
 ghost use Rattle.http_node.specs.Note.{note_of, IsNoted};
 
 use crate::note::{NOTE_ROOM, note_status, put_end_note, write_note};
-use crate::script::{ReplayEnd, replay};
+use crate::replay::{ReplayEnd, replay};
 use cdni_base::Scratch;
 use edge_base::{Sink, Source, Status};
 use std::alloc::Global;

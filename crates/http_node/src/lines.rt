@@ -8,12 +8,6 @@ use edge_base::Source;
 use std::alloc::{AllocError, Global};
 use std::marker::Model;
 
-/// The byte that ends a line.
-pub const LINE_FEED: u8 = b'\n';
-
-/// A line of more bytes, its line feed counted, is none.
-pub const LINE_LIMIT: usize = 40_000_000;
-
 /// What was read ahead of the lines, and the last line: it stands where it was read, or was joined of several reads.
 #[derive(Drop)]
 pub struct Lines {

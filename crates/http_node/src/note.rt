@@ -4,7 +4,7 @@ ghost use Rattle.std.specs.Prelude.{◌≡◌, ◌+◌, ◌≤◌, ◌++◌, [],
 ghost use Rattle.cdni_base.specs.Scratch.{Room};
 ghost use Rattle.http_node.specs.Note.{bad_line_text, end_note, note_of, IsNoted};
 
-use crate::script::ReplayEnd;
+use crate::replay::ReplayEnd;
 use cdni_base::Scratch;
 use edge_base::{Sink, Status, write_counted};
 

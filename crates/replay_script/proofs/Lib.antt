@@ -1,2 +1,2 @@
 mod GrammarLemmas
-mod ScriptLemmas
+pub mod ScriptLemmas

@@ -1,7 +1,7 @@
 use Rattle.std.proofs.Common.{◌≡◌, ◌-◌, ◌<◌, length}
 use Rattle.http_node.specs.Ahead.{Moves}
-use Rattle.http_node.specs.Lines.{NoFeed}
-use Rattle.http_node.specs.declared.lines.TheConstants.{LINE_LIMIT}
+use Rattle.replay_script.specs.Lines.{NoFeed}
+use Rattle.replay_script.specs.declared.step.TheConstants.{LINE_LIMIT}
 use Rattle.http_node.proofs.ahead.Ahead.next_line.Given as goal
 
 abbrev pub invariant-pieces : goal.invariant-pieces

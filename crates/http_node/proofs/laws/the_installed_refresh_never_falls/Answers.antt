@@ -1,5 +1,0 @@
-use Rattle.http_node.proofs.NumberLemmas.{installed_never_falls}
-use Rattle.http_node.proofs.laws.the_installed_refresh_never_falls.Goals as goal
-
-pub returns : goal.returns
-returns c = installed_never_falls

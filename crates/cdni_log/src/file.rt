@@ -28,7 +28,7 @@ const FIELDS: &[u8] =
 /// Want of memory.
 #[tactic(auto, unfolding(crate::specs::File::file_text))]
 pub fn file_text(alloc: Global, head: &FileHead, rows: &RowList) -> Result<Text, AllocError>
-    ensures { IfOk result (λ text. text ≡ file_text head.now rows.now) }
+    ensures { IfOk result (λ text. text ≡ file_text head.now rows.now.items) }
 {
     let mut text = Vec::new(alloc);
     add_identity(alloc, &mut text, head)?;

@@ -1,6 +1,6 @@
 //! What a log file is made of.
 
-use listing::{Listing, Moment, Text};
+use listing::{Moment, ReservedList, Text};
 
 /// What is recorded of one request that was served (RFC 7937, section 3.4.1).
 #[derive(Clone, Drop)]
@@ -26,8 +26,8 @@ pub struct Row {
     pub cached: bool,
 }
 
-/// A list of rows, in the order of their deliveries' ends.
-pub type RowList = Listing<Row>;
+/// A list of rows, in the order of their deliveries' ends, with places that are reserved for more.
+pub type RowList = ReservedList<Row>;
 
 /// What tells one log file from another.
 #[derive(Clone, Drop)]

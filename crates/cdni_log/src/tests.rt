@@ -1,7 +1,7 @@
 //! Files that other programs made: their UUIDs are Python's `uuid5`, and their hashes `sha256sum`'s.
 
 use crate::{FileHead, Row, RowList, file_text};
-use listing::{Listing, Moment, Text};
+use listing::{Moment, ReservedList, Text};
 use std::alloc::{AllocError, Global};
 use std::test::Fail;
 
@@ -81,17 +81,18 @@ fn row_of(alloc: Global, seen: &Seen<'_>) -> Result<Row, AllocError> {
 }
 
 fn rows_of(alloc: Global, seen: &[Seen<'_>]) -> Result<RowList, AllocError> {
-    let mut rows = Listing::new(alloc);
+    let mut rows = ReservedList::new(alloc);
     for one in seen {
-        rows.push(row_of(alloc, one)?)?;
+        let row = row_of(alloc, one)?;
+        rows.reserve(alloc, 1)?;
+        rows.push_reserved(row);
     }
     Ok(rows)
 }
 
-#[test]
-fn files_are_those_of_other_programs(rt: HostRuntime) -> Result<(), Fail> {
-    let alloc = rt.alloc();
-    let rows = rows_of(
+// the row of the first file
+fn first_rows(alloc: Global) -> Result<RowList, AllocError> {
+    rows_of(
         alloc,
         &[Seen {
             moments: [1368751077767, 1368751086825],
@@ -102,12 +103,12 @@ fn files_are_those_of_other_programs(rt: HostRuntime) -> Result<(), Fail> {
             ccid: None,
             cached: false,
         }],
-    )?;
-    let head = head_of(alloc, 1, 1368751086900, b"dcdn.example")?;
-    let text = file_text(alloc, &head, &rows)?;
-    assert!(rt; text.is(&file_of(alloc, &FIRST)?));
+    )
+}
 
-    let rows = rows_of(
+// the rows of the second one
+fn second_rows(alloc: Global) -> Result<RowList, AllocError> {
+    rows_of(
         alloc,
         &[
             Seen {
@@ -138,9 +139,18 @@ fn files_are_those_of_other_programs(rt: HostRuntime) -> Result<(), Fail> {
                 cached: false,
             },
         ],
-    )?;
+    )
+}
+
+#[test]
+fn files_are_those_of_other_programs(rt: HostRuntime) -> Result<(), Fail> {
+    let alloc = rt.alloc();
+    let head = head_of(alloc, 1, 1368751086900, b"dcdn.example")?;
+    let text = file_text(alloc, &head, &first_rows(alloc)?)?;
+    assert!(rt; text.is(&file_of(alloc, &FIRST)?));
+
     let head = head_of(alloc, 18446744073709551615, 0, b"log.example")?;
-    let text = file_text(alloc, &head, &rows)?;
+    let text = file_text(alloc, &head, &second_rows(alloc)?)?;
     assert!(rt; text.is(&file_of(alloc, &SECOND)?));
     Ok(())
 }

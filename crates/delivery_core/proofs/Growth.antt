@@ -5,7 +5,7 @@ use Rattle.cdni_base.specs.declared.asked.Asked.{Asked}
 use Rattle.history.specs.After.{admission, opened_by}
 use Rattle.history.specs.declared.begun.Admission.{Admission}
 use Rattle.location_acl.specs.declared.footprint.Place.{Place}
-use Rattle.delivery_core.specs.Edge.{EdgeView, admit_after, admit_after_by, admit_reply, admit_reply_by, decision_of, entered, entered_reply}
+use Rattle.delivery_core.specs.Edge.{EdgeView, admit_after, admit_after_by, admit_reply, admit_reply_by, decision_of, entered, entered_reply, pending}
 use Rattle.delivery_core.specs.Traces.{reply_of}
 use Rattle.delivery_core.specs.declared.decision.Decision.{Decision}
 use Rattle.delivery_core.specs.declared.decision.Decision.TheVariants as decision
@@ -39,4 +39,4 @@ module _ (edge : EdgeView) (opened : ℕ) where
 
   pub admit_grows : (pass : ℕ) (asked : Asked) (place : Place) (moment : ℕ)
       → Grows edge (admit_after edge pass opened asked place moment) opened (opened_by (reply_of (admit_reply edge opened asked place moment)))
-  admit_grows pass asked place moment = admit_grows_by pass (admission asked place moment None false) (length edge.deliveries) (decision_of edge asked place moment) (length edge.deliveries == edge.limits.rows) (opened == edge.limits.opened) refl
+  admit_grows pass asked place moment = admit_grows_by pass (admission asked place moment None false) (pending edge) (decision_of edge asked place moment) (pending edge == edge.limits.rows) (opened == edge.limits.opened) refl

@@ -7,6 +7,7 @@ use Rattle.cdni_base.specs.Limits.{Bounds}
 use Rattle.cdni_base.specs.Key.{KeyParts}
 use Rattle.cdni_base.specs.declared.asked.Asked.{Asked}
 use Rattle.cdni_base.specs.declared.rule.Rule.{Rule}
+use Rattle.cdni_log.specs.declared.row.Row.{Row}
 use Rattle.inheritance.specs.Held.{ccid_of}
 use Rattle.location_acl.specs.declared.footprint.Place.{Place}
 use Rattle.metadata_objects.specs.LevelData.{Index}
@@ -46,8 +47,10 @@ pub record EdgeView : Type 0 where
   pub fetches : List (Open Fetching)  -- those that are open, in order
   pub deliveries : List (Open Admission)  -- those that are open, in order
   pub refreshes : List (Open ℕ)  -- those that are open, with the moments at which they began, in order
+  pub unfiled : List Row  -- rows that no log file has, in order
   pub fetched : ℕ  -- fetches that were begun
   pub delivered : ℕ  -- deliveries that were begun
+  pub logged : ℕ  -- rows that there ever were
   pub refreshed : ℕ  -- refreshes that were begun
   pub installed : ℕ  -- installations
 
@@ -74,9 +77,13 @@ abbrev pub decision_of : EdgeView → Asked → Place → ℕ → Decision
 decision_of v asked place moment = decided (index_of v) v.kept asked.target
     (forbidden (index_of v) None asked place moment)
 
--- the count that is at its limit: deliveries, or what was opened
+-- how many deliveries are open and rows unfiled, together
+abbrev pub pending : EdgeView → ℕ
+pending v = length v.deliveries + length v.unfiled
+
+-- the count that is at its limit: deliveries and rows, or what was opened
 abbrev pub full_count : EdgeView → ℕ → Option ℕ
-full_count v opened = if length v.deliveries == v.limits.rows then Some (length v.deliveries)
+full_count v opened = if pending v == v.limits.rows then Some (pending v)
     else (if opened == v.limits.opened then Some opened else None)
 
 abbrev pub entered_reply : EdgeView → Decision → Admitted
@@ -147,6 +154,20 @@ fetch_end_after v pass fetch outcome (Some flight) = record v {
   kept = brought v.limits.cache v.kept flight outcome;
 }
 
+-- ---- the end of a delivery
+
+abbrev pub finish_reply : EdgeView → Option (Open Admission) → Option ℕ
+finish_reply v found = option_map (λ one. v.logged + 1) found
+
+-- an admission has this row
+abbrev pub finish_after : EdgeView → ℕ → ℕ → (Admission → Row) → Option (Open Admission) → EdgeView
+finish_after v pass delivery row None = v
+finish_after v pass delivery row (Some one) = record v {
+  deliveries = unnamed delivery pass v.deliveries;
+  unfiled = v.unfiled ++ row one.what ∷ [];
+  logged = v.logged + 1;
+}
+
 -- ---- refreshes
 
 -- before the begin of the installed refresh and the period, when the next one is due
@@ -213,8 +234,10 @@ empty limits = record {
   fetches = [];
   deliveries = [];
   refreshes = [];
+  unfiled = [];
   fetched = 0;
   delivered = 0;
+  logged = 0;
   refreshed = 0;
   installed = 0;
 }

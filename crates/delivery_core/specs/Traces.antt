@@ -2,7 +2,8 @@
 use Rattle.std.specs.Prelude.{◌≡◌, ℕ, Bool, List, [], map, None, Some}
 use Rattle.std.specs.declared.option.Option.{Option}
 use Rattle.std.specs.Option.{option_map}
-use Rattle.history.specs.World.{Begun, Installed, World}
+use Rattle.cdni_log.specs.declared.row.Row.{Row}
+use Rattle.history.specs.World.{Begun, Installed, Recorded, World}
 use Rattle.history.specs.declared.reply.Reply.{Reply}
 use Rattle.history.specs.declared.reply.Reply.TheVariants as reply
 use Rattle.delivery_core.specs.Edge.{EdgeView, Seen}
@@ -19,6 +20,10 @@ unplaced begun = record { number = begun.number; pass = begun.pass; what = begun
 abbrev pub seen : Installed → Seen
 seen installed = record { tree = installed.tree; refresh = installed.refresh; moment = installed.moment }
 
+-- what it says
+abbrev pub row_in : Recorded → Row
+row_in recorded = recorded.row
+
 abbrev pub edge_of : World → EdgeView
 edge_of w = record {
   limits = w.made.limits;
@@ -27,16 +32,17 @@ edge_of w = record {
   fetches = map unplaced w.delivering.fetches;
   deliveries = map unplaced w.delivering.deliveries;
   refreshes = map unplaced w.delivering.refreshes;
+  unfiled = map row_in w.delivering.unfiled;
   fetched = w.counts.fetched;
   delivered = w.counts.delivered;
+  logged = w.counts.logged;
   refreshed = w.counts.refreshed;
   installed = w.counts.installed;
 }
 
--- what is not built yet has left nothing: no trigger, no start, no row
-pub record HasNoTriggers (w : World) : Type 0 where
-  pub starts : w.delivering.starts ≡ []
-  pub unfiled : w.delivering.unfiled ≡ []
+-- what is not built yet has left nothing: no trigger has started
+abbrev pub HasNoTriggers : World → Type 0
+HasNoTriggers w = w.delivering.starts ≡ []
 
 -- the reply of a request
 abbrev pub reply_of : Admitted → Reply
@@ -49,6 +55,11 @@ reply_of (admitted.Full count) = reply.Full count
 abbrev pub fetch_ended : ℕ → Option Bool → Reply
 fetch_ended fetch None = reply.NotOpen fetch
 fetch_ended fetch (Some kept) = reply.Ended kept
+
+-- that of the end of a delivery of this number
+abbrev pub finished : ℕ → Option ℕ → Reply
+finished delivery None = reply.NotOpen delivery
+finished delivery (Some row) = reply.Logged row
 
 -- that of the end of a refresh of this number
 abbrev pub refresh_ended : ℕ → RefreshEnded → Reply

@@ -2,7 +2,7 @@
 
 ghost use Rattle.std.specs.Prelude.{◌≡◌, ◌≤◌, ◌<◌, ◌^◌, ◌+◌, ◌++◌, ◌∷◌, [], Ok, IfOk, IfNone, OnErr, OnOk, OnSome, None, false, MatchOption, length, option_map};
 ghost use Rattle.std.specs.List.{find};
-ghost use Rattle.history.specs.After.{admission, is_secure};
+ghost use Rattle.history.specs.After.{admission, is_secure, row_of};
 ghost use Rattle.metadata_objects.specs.LevelData.{index_view};
 ghost use Rattle.metadata_objects.specs.Tree.{tree_view};
 ghost use Rattle.delivery_core.specs.Open.{is_named, AreUpTo};
@@ -10,6 +10,7 @@ ghost use Rattle.delivery_core.specs.Edge.{allowed, of_collection};
 
 use crate::decision::{Decision, Found, Judged, ccid_by, judge_request, key_by};
 use crate::open::{Named, Open};
+use crate::records::{Ending, Records};
 use crate::results::{Admitted, Began, RefreshEnded};
 use crate::shelf::Shelf;
 use cdni_base::{Asked, EndpointList, Key, Limits, Moment, Protocol, Rule, Target, Text};
@@ -31,17 +32,16 @@ pub(crate) struct Installed {
     moment: Moment,
 }
 
-/// The installed metadata, what is kept of fetches, and the deliveries, fetches and refreshes that are open. It is seen
-/// as what a history leaves of these, without positions. Each call takes constant time on average, whatever is kept and
+/// The installed metadata, what is kept of fetches, the deliveries, fetches and refreshes that are open, and the rows of
+/// finished deliveries that no log file has. It is seen as what a history leaves of these, without positions. Each call takes constant time on average, whatever is kept and
 /// open, but for what the metadata of one target takes and the objects that leave.
 #[derive(Drop)]
 pub struct Edge {
     limits: Limits,
     installed: Option<Installed>,
     shelf: Shelf,
-    deliveries: Row<Open<Admission>>,
+    records: Records,
     refreshes: Row<Open<Moment>>,
-    delivered: u64,
     refreshed: u64,
     installations: u64,
 }
@@ -70,21 +70,22 @@ impl Model for Edge {
       tree = option_map (λ i. record { tree = tree_view i.tree; refresh = i.refresh; moment = i.moment }) e.installed;
       kept = e.shelf.kept;
       fetches = e.shelf.fetches;
-      deliveries = e.deliveries.items;
+      deliveries = e.records.deliveries;
       refreshes = e.refreshes.items;
+      unfiled = e.records.unfiled;
       fetched = e.shelf.fetched;
-      delivered = e.delivered;
+      delivered = e.records.delivered;
+      logged = e.records.logged;
       refreshed = e.refreshed;
       installed = e.installations;
     } };
 
-    ghost invariant = { λ e. (e.shelf.limit ≡ e.limits.cache) × AreUpTo e.delivered e.deliveries.items
-        × AreUpTo e.refreshed e.refreshes.items
+    ghost invariant = { λ e. (e.shelf.limit ≡ e.limits.cache) × AreUpTo e.refreshed e.refreshes.items
         × (e.installations + length e.refreshes.items ≤ e.refreshed) };
 }
 
 impl Edge {
-    ghost use Rattle.delivery_core.specs.Edge.{EdgeView, empty, index_of, full_count, decision_of, admit_reply, admit_after, entered_reply, entered, with_denial, with_hit, with_miss, fetch_end_reply, fetch_end_after, next_due, begin_reply, begin_after, newer, install_reply, install_after, without_refresh, refresh_end_reply, refresh_end_after};
+    ghost use Rattle.delivery_core.specs.Edge.{EdgeView, empty, index_of, full_count, decision_of, admit_reply, admit_after, entered_reply, entered, with_denial, with_hit, with_miss, fetch_end_reply, fetch_end_after, finish_reply, finish_after, next_due, begin_reply, begin_after, newer, install_reply, install_after, without_refresh, refresh_end_reply, refresh_end_after};
 
     /// An edge with nothing installed, kept or open.
     ///
@@ -97,9 +98,8 @@ impl Edge {
             limits: *limits,
             installed: None,
             shelf: Shelf::new(alloc, limits.cache)?,
-            deliveries: Row::new(alloc),
+            records: Records::new(alloc),
             refreshes: Row::new(alloc),
-            delivered: 0,
             refreshed: 0,
             installations: 0,
         })
@@ -138,9 +138,9 @@ impl Edge {
     fn full_count(&self, opened: u64) -> Option<u64>
         ensures { result ≡ full_count self.now opened }
     {
-        let deliveries = self.deliveries.len() as u64;
-        if deliveries == self.limits.rows {
-            return Some(deliveries);
+        let pending = self.records.pending();
+        if pending == self.limits.rows {
+            return Some(pending);
         }
         if opened == self.limits.opened {
             Some(opened)
@@ -207,8 +207,8 @@ impl Edge {
         ensures after { OnOk result (self.new ≡ with_denial self.old pass what) }
         ensures err { OnErr result (self.new ≡ self.old) }
     {
-        self.deliveries.reserve(alloc, 1)?;
-        let delivery = begin(&mut self.deliveries, &mut self.delivered, pass, what);
+        self.records.reserve(alloc)?;
+        let delivery = self.records.begin(pass, what);
         Ok(Admitted::Denied { delivery, rule })
     }
 
@@ -227,9 +227,9 @@ impl Edge {
         ensures after { OnOk result (self.new ≡ with_hit self.old pass what key) }
         ensures err { OnErr result (self.new ≡ self.old) }
     {
-        self.deliveries.reserve(alloc, 1)?;
+        self.records.reserve(alloc)?;
         self.shelf.touch(&key);
-        let delivery = begin(&mut self.deliveries, &mut self.delivered, pass, what);
+        let delivery = self.records.begin(pass, what);
         Ok(Admitted::Hit {
             delivery,
             fetch: found.fetch,
@@ -256,11 +256,11 @@ impl Edge {
             (record { key = key; ccid = ccid })) }
         ensures err { OnErr result (self.new ≡ self.old) }
     {
-        self.deliveries.reserve(alloc, 1)?;
+        self.records.reserve(alloc)?;
         let copy = copy_of(&ccid)?;
         let what = of_collection(what, copy, false);
         let fetch = self.shelf.open(alloc, pass, Fetching { key, ccid })?;
-        let delivery = begin(&mut self.deliveries, &mut self.delivered, pass, what);
+        let delivery = self.records.begin(pass, what);
         Ok(Admitted::Miss {
             delivery,
             fetch,
@@ -277,6 +277,32 @@ impl Edge {
         ensures closed { IfNone result (self.new ≡ self.old) }
     {
         self.shelf.end(pass, fetch, outcome)
+    }
+
+    /// Ends the delivery of this number, if this pass began it: it was answered with this status, and so many bytes were
+    /// sent, and so many of them of the body. Its row is kept until it is filed. It takes no memory. The answer is the
+    /// number of the row; `None` where no such delivery is open.
+    pub fn finish(
+        &mut self,
+        pass: u32,
+        delivery: u64,
+        status: u16,
+        total: u64,
+        entity: u64,
+        moment: Moment,
+    ) -> Option<u64>
+        ensures reply { result ≡ finish_reply self.old (find (is_named delivery pass) self.old.deliveries) }
+        ensures after { self.new ≡ finish_after self.old pass delivery (row_of status total entity moment)
+            (find (is_named delivery pass) self.old.deliveries) }
+        ensures closed { IfNone result (self.new ≡ self.old) }
+    {
+        let ending = Ending {
+            status,
+            total,
+            entity,
+            moment,
+        };
+        self.records.finish(pass, delivery, ending)
     }
 
     /// The limits with which it was made.
@@ -488,29 +514,4 @@ fn is_secure(protocol: Protocol) -> bool
         Protocol::Http => false,
         Protocol::Https => true,
     }
-}
-
-// begins a delivery of this pass at a reserved place, and answers its number
-fn begin(
-    deliveries: &mut Row<Open<Admission>>,
-    delivered: &mut u64,
-    pass: u32,
-    what: Admission,
-) -> u64
-    requires spare { 0 < deliveries.old.spare }
-    requires below { AreUpTo delivered.old deliveries.old.items }
-    requires few { delivered.old ≤ 2 ^ 62 }
-    ensures number { result ≡ delivered.old + 1 }
-    ensures items { deliveries.new.items ≡ deliveries.old.items
-        ++ record { number = delivered.old + 1; pass = pass; what = what } ∷ [] }
-    ensures counted { delivered.new ≡ delivered.old + 1 }
-    ensures below { AreUpTo delivered.new deliveries.new.items }
-{
-    *delivered += 1;
-    deliveries.push(Open {
-        number: *delivered,
-        pass,
-        what,
-    });
-    *delivered
 }

@@ -1,10 +1,11 @@
-//! The side of the core that delivers: the installed metadata, what is kept of fetches, and the deliveries, fetches and
-//! refreshes that are open. It sees no history: its value is what a history leaves of these, without positions.
+//! The side of the core that delivers: the installed metadata, what is kept of fetches, the deliveries, fetches and
+//! refreshes that are open, and the rows of finished deliveries. It sees no history: its value is what a history leaves of these, without positions.
 #![tactic(auto)]
 
 mod decision;
 mod edge;
 mod open;
+mod records;
 mod results;
 mod shelf;
 

@@ -6,17 +6,19 @@ use Rattle.cdni_base.specs.Limits.{AreInRange, Bounds}
 use Rattle.cdni_base.specs.declared.asked.Asked.{Asked}
 use Rattle.delivery_core.proofs.Growth.{admit_grows}
 use Rattle.delivery_core.proofs.Squares as squares
-use Rattle.delivery_core.specs.Edge.{EdgeView, admit_after, admit_reply, begin_after, empty, fetch_end_after, fetch_end_reply, install_after, install_reply, newer, next_due, refresh_end_after, refresh_end_reply}
+use Rattle.delivery_core.specs.Edge.{EdgeView, admit_after, admit_reply, begin_after, empty, fetch_end_after, fetch_end_reply, finish_after, finish_reply, install_after, install_reply, newer, next_due, refresh_end_after, refresh_end_reply}
 use Rattle.delivery_core.specs.Open.{is_named, unnamed}
-use Rattle.delivery_core.specs.Traces.{HasNoTriggers, edge_of, fetch_ended, refresh_ended, reply_of}
+use Rattle.delivery_core.specs.Traces.{HasNoTriggers, edge_of, fetch_ended, finished, refresh_ended, reply_of}
 use Rattle.delivery_core.specs.declared.open.Open.{Open}
+use Rattle.cdni_log.specs.declared.row.Row.{Row}
+use Rattle.history.specs.declared.begun.Admission.{Admission}
 use Rattle.delivery_core.specs.declared.results.Admitted.{Admitted}
 use Rattle.delivery_core.specs.declared.results.Began.{Began}
 use Rattle.delivery_core.specs.declared.results.Began.TheVariants as began
 use Rattle.delivery_core.specs.declared.results.RefreshEnded.{RefreshEnded}
 use Rattle.history.proofs.Words.{world_push}
-use Rattle.history.specs.After.{after, after_reply, opened_by}
-use Rattle.history.specs.Event.{Entry, History, Admit, FetchEnd, RefreshBegin, RefreshEnd}
+use Rattle.history.specs.After.{after, after_reply, opened_by, row_of}
+use Rattle.history.specs.Event.{Entry, History, Admit, FetchEnd, Finish, RefreshBegin, RefreshEnd}
 use Rattle.history.specs.History.{reply_to, world_of}
 use Rattle.history.specs.Reply.{reply_in}
 use Rattle.history.specs.World.{Made, World}
@@ -49,7 +51,7 @@ same_opened n = omega arith
 
 pub stands_at_start : (made : Made) (limits : Bounds) (v : EdgeView) → made.limits ≡ limits → v ≡ empty limits → Stands (node v 0) made []
 unfolding world_of
-stands_at_start made limits v made_so is = record { edge = is ∙ ap empty (sym made_so); opened = refl; plain = record { starts = refl; unfiled = refl } }
+stands_at_start made limits v made_so is = record { edge = is ∙ ap empty (sym made_so); opened = refl; plain = refl }
 
 module _ (made : Made) (h : History) (edge edge' : EdgeView) (opened : ℕ) (s : Stands (node edge opened) made h) where
   pub admit_told : (pass : ℕ) (asked : Asked) (place : Place) (moment many : ℕ) (a : Admitted) (r : Reply) → a ≡ admit_reply edge opened asked place moment → edge' ≡ admit_after edge pass opened asked place moment
@@ -73,6 +75,17 @@ module _ (made : Made) (h : History) (edge edge' : EdgeView) (opened : ℕ) (s :
       (left ∙ ap (λ (v : EdgeView). fetch_end_after v pass fetch outcome (find (is_named fetch pass) v.fetches)) s.edge ∙ sym (squares.fetch_end_leaves w s.plain pass fetch outcome moment))
       (s.opened ∙ sym (squares.fetch_end_opens w s.plain pass fetch outcome moment))
       (squares.fetch_end_plain w s.plain pass fetch outcome moment)
+
+  pub finish_told : (pass delivery status total entity moment : ℕ) (row : Option ℕ) (r : Reply) → row ≡ finish_reply edge (find (is_named delivery pass) edge.deliveries)
+      → edge' ≡ finish_after edge pass delivery (row_of status total entity moment) (find (is_named delivery pass) edge.deliveries) → r ≡ finished delivery row
+      → Tells made h (pass, Finish delivery status total entity moment) r (node edge' opened)
+  finish_told pass delivery status total entity moment row r is left answer =
+      let w : World = world_of made h in
+      told made h (pass, Finish delivery status total entity moment) r edge' opened
+      (answer ∙ ap (finished delivery) is ∙ ap (λ (v : EdgeView). finished delivery (finish_reply v (find (is_named delivery pass) v.deliveries))) s.edge ∙ squares.finish_replies w s.plain pass delivery status total entity moment)
+      (left ∙ ap (λ (v : EdgeView). finish_after v pass delivery (row_of status total entity moment) (find (is_named delivery pass) v.deliveries)) s.edge ∙ sym (squares.finish_leaves w s.plain pass delivery status total entity moment))
+      (s.opened ∙ sym (squares.finish_opens w s.plain pass delivery status total entity moment))
+      (squares.finish_plain w s.plain pass delivery status total entity moment)
 
   pub refresh_end_told : (pass refresh : ℕ) (tree : Option TreeData) (moment : ℕ) (ended : RefreshEnded) (r : Reply) → ended ≡ refresh_end_reply edge refresh tree (find (is_named refresh pass) edge.refreshes)
       → edge' ≡ refresh_end_after edge pass refresh tree (find (is_named refresh pass) edge.refreshes) → r ≡ refresh_ended refresh ended → Tells made h (pass, RefreshEnd refresh tree moment) r (node edge' opened)
@@ -138,6 +151,10 @@ module _ (edge : EdgeView) (opened : ℕ) (s : IsSound edge opened) where
   pub sound_fetch_end : (pass fetch : ℕ) (outcome : Outcome) (found : Option (Open Fetching)) → IsSound (fetch_end_after edge pass fetch outcome found) opened
   sound_fetch_end pass fetch outcome None = s
   sound_fetch_end pass fetch outcome (Some flight) = record { begun = s.begun; fetched = s.fetched; few = s.few; limit = s.limit }
+
+  pub sound_finish : (pass delivery : ℕ) (row : Admission → Row) (found : Option (Open Admission)) → IsSound (finish_after edge pass delivery row found) opened
+  sound_finish pass delivery row None = s
+  sound_finish pass delivery row (Some one) = record { begun = s.begun; fetched = s.fetched; few = s.few; limit = s.limit }
 
   sound_install : (pass refresh moment : ℕ) (brought : TreeData) (later : Option ℕ)
       → IsSound (install_after (record edge { refreshes = unnamed refresh pass edge.refreshes }) refresh brought moment (install_reply edge later)) opened

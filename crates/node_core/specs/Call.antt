@@ -1,7 +1,7 @@
 -- A call as the definitions see it: with metadata as plain data.
 use Rattle.std.specs.Option.{option_map}
 use Rattle.metadata_objects.specs.Tree.{tree_view}
-use Rattle.history.specs.Event.{Event, Admit, FetchEnd, RefreshBegin, RefreshEnd}
+use Rattle.history.specs.Event.{Event, Admit, FetchEnd, Finish, RefreshBegin, RefreshEnd}
 use Rattle.node_core.specs.declared.call.Call.{Call}
 use Rattle.node_core.specs.declared.call.Call.TheVariants as call
 
@@ -10,3 +10,4 @@ event_of (call.RefreshBegin moment) = RefreshBegin moment
 event_of (call.RefreshEnd refresh tree moment) = RefreshEnd refresh (option_map tree_view tree) moment
 event_of (call.Admit asked place moment) = Admit asked place moment
 event_of (call.FetchEnd fetch outcome moment) = FetchEnd fetch outcome moment
+event_of (call.Finish delivery status total entity moment) = Finish delivery status total entity moment

@@ -5,7 +5,7 @@ use location_acl::Place;
 use metadata_objects::Tree;
 use upstream_gate::Outcome;
 
-/// A call of those that a node takes in so far: of deliveries, fetches and metadata.
+/// A call of those that a node takes in so far: of deliveries and their ends, fetches and metadata.
 #[derive(Drop)]
 pub enum Call {
     /// A refresh of the metadata would begin.
@@ -28,6 +28,14 @@ pub enum Call {
     FetchEnd {
         fetch: u64,
         outcome: Outcome,
+        moment: Moment,
+    },
+    /// A delivery was answered with this status; so many bytes were sent, and so many of them of the body.
+    Finish {
+        delivery: u64,
+        status: u16,
+        total: u64,
+        entity: u64,
         moment: Moment,
     },
 }

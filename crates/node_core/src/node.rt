@@ -1,9 +1,9 @@
 //! The node: one call after the other.
 
 ghost use Rattle.std.specs.Prelude.{◌≡◌, ◌≤◌, ℕ, [], IfOk, OnErr, option_map};
-ghost use Rattle.delivery_core.specs.Traces.{reply_of, fetch_ended, refresh_ended};
+ghost use Rattle.delivery_core.specs.Traces.{reply_of, fetch_ended, finished, refresh_ended};
 ghost use Rattle.history.specs.After.{opened_by};
-ghost use Rattle.history.specs.Event.{History, Admit, FetchEnd, RefreshBegin, RefreshEnd};
+ghost use Rattle.history.specs.Event.{History, Admit, FetchEnd, Finish, RefreshBegin, RefreshEnd};
 ghost use Rattle.metadata_objects.specs.Tree.{tree_view};
 ghost use Rattle.history.specs.World.{Made};
 ghost use Rattle.node_core.specs.Call.{event_of};
@@ -89,6 +89,13 @@ impl Node {
                 outcome,
                 moment: _,
             } => Ok(self.fetch_end(pass, fetch, outcome)),
+            Call::Finish {
+                delivery,
+                status,
+                total,
+                entity,
+                moment,
+            } => Ok(self.finish(pass, delivery, status, total, entity, moment)),
         }
     }
 
@@ -152,6 +159,24 @@ impl Node {
         let ended = self.edge.fetch_end(pass, fetch, outcome);
         reply_of_fetch(fetch, ended)
     }
+
+    fn finish(
+        &mut self,
+        pass: u32,
+        delivery: u64,
+        status: u16,
+        total: u64,
+        entity: u64,
+        moment: Moment,
+    ) -> Reply
+        ensures { (made : Made) (h : History) → Stands self.old made h
+            → Tells made h (pass, Finish delivery status total entity moment) result self.new }
+    {
+        let row = self
+            .edge
+            .finish(pass, delivery, status, total, entity, moment);
+        reply_of_delivery(delivery, row)
+    }
 }
 
 // the reply to a request
@@ -201,6 +226,16 @@ fn reply_of_fetch(fetch: u64, ended: Option<bool>) -> Reply
     match ended {
         Some(kept) => Reply::Ended { kept },
         None => Reply::NotOpen { number: fetch },
+    }
+}
+
+// the reply to the end of a delivery
+fn reply_of_delivery(delivery: u64, row: Option<u64>) -> Reply
+    ensures { result ≡ finished delivery row }
+{
+    match row {
+        Some(row) => Reply::Logged { row },
+        None => Reply::NotOpen { number: delivery },
     }
 }
 

@@ -31,12 +31,12 @@ use Rattle.location_acl.specs.declared.footprint.Place.{Place}
 use Rattle.metadata_objects.specs.Host.{host_index_of_text}
 use Rattle.hex.specs.Hex.{decode_of}
 use Rattle.cdni_base.specs.Limits.{Bounds, AreInRange}
-use Rattle.history.specs.Event.{Event, Admit, FetchEnd, RefreshEnd}
+use Rattle.history.specs.Event.{Event, Admit, FetchEnd, Finish, RefreshEnd}
 use Rattle.upstream_gate.specs.Got.{GotParts, IsGot, is_got_status}
 use Rattle.upstream_gate.specs.declared.got.TheConstants.{BODY_MAX}
 use Rattle.upstream_gate.specs.declared.outcome.Outcome.TheVariants as outcome
 use Rattle.replay_script.specs.Call.{Noted, Said, Sets, Calls}
-use Rattle.replay_script.specs.Grammar.{number_below, number_between, bounds_of, limits_of, url_target, key_of_url, keys_of_urls, keys_of, is_method, protocol_of, place_at, asked_of, get_of, refreshed, meta_of, plain, is_kind, kind_of, body_of, content_of, got_of, lost_of, metafail_of, worded, call_of, scripted_of, line_of, NoSpace, IsNumber, IsProtocol, IsPlace, IsAsked, AreKeys, IsKind, IsBody, SaysMeta, SaysGet, SaysGot, SaysLost, SaysMetafail, SaysCall, SaysScripted, SaysLimits, Says, ReadsAs}
+use Rattle.replay_script.specs.Grammar.{number_below, number_between, bounds_of, limits_of, url_target, key_of_url, keys_of_urls, keys_of, is_method, protocol_of, place_at, asked_of, get_of, refreshed, meta_of, plain, is_kind, kind_of, body_of, content_of, got_of, lost_of, metafail_of, finish_of, worded, call_of, scripted_of, line_of, NoSpace, IsNumber, IsProtocol, IsPlace, IsAsked, AreKeys, IsKind, IsBody, SaysMeta, SaysGet, SaysGot, SaysLost, SaysMetafail, SaysFinish, SaysCall, SaysScripted, SaysLimits, Says, ReadsAs}
 use Rattle.replay_script.specs.declared.grammar.TheConstants.{SPACE, BAR}
 
 abbrev pub parts_of : ℕ → List ℕ → List (List ℕ)
@@ -364,7 +364,7 @@ says_get moment text said is =
           ∙ ap Some (sym is.call),
     )
 
--- ---- the words of `got`, `lost` and `metafail`
+-- ---- the words of `got`, `lost`, `metafail` and `finish`
 
 found_ok : {A E : Type 0} (read : Result A E) (a : A) → result_ok read ≡ Some a → read ≡ Ok a
 found_ok (Ok b) a is = ap Ok (same_some is)
@@ -427,6 +427,20 @@ below_says bound text n is =
 says_below : (bound : ℕ) (text : List ℕ) (n : ℕ) → IsNumber text n → n < bound → number_below bound text ≡ Some n
 unfolding number_below
 says_below bound text n is below = found_then (number_of text) _ n _ (says_number text n is) (cond-true _ _ _ (lt-ltb _ _ below))
+
+between_says : (least most : ℕ) (text : List ℕ) (n : ℕ) → number_between least most text ≡ Some n → IsNumber text n × (least ≤ n) × (n ≤ most)
+unfolding number_between
+between_says least most text n is =
+    let found = found_first (number_of text) _ n is in
+    let within = found_if (nat_le least found.0 && nat_le found.0 most) (Some found.0) n found.2 in
+    let same : found.0 ≡ n = same_some within.1 in
+    let parts = and_parts (nat_le least found.0) (nat_le found.0 most) within.0 in
+    subst (λ k. IsNumber text k × (least ≤ k) × (k ≤ most)) same (number_says text found.0 found.1, leb-true _ _ parts.0, leb-true _ _ parts.1)
+
+says_between : (least most : ℕ) (text : List ℕ) (n : ℕ) → IsNumber text n → least ≤ n → n ≤ most → number_between least most text ≡ Some n
+unfolding number_between
+says_between least most text n is low high =
+    found_then (number_of text) _ n _ (says_number text n is) (cond-true _ _ _ (and_from (nat_le least n) (nat_le n most) (le-leb _ _ low) (le-leb _ _ high)))
 
 content_says : (status kind hex : List ℕ) (got : GotParts) → content_of status kind hex ≡ Some got → IsNumber status got.status × IsKind kind got.kind × IsBody hex got.body × IsGot got
 unfolding content_of
@@ -533,11 +547,65 @@ says_metafail moment text said is =
     let first = is.words in
     (first.0, first.1, ap (λ t. option_map plain (metafail_of moment t)) first.3 ∙ ap (λ n. option_map plain (option_map (λ refresh. RefreshEnd refresh None moment) n)) (says_number is.number is.refresh is.numbered) ∙ ap Some (sym is.call))
 
+finish_says : (moment : ℕ) (text word behind : List ℕ) (said : Noted) → parts_at SPACE text ≡ Some (word, behind) → bytes_eq word (codes "finish") ≡ true → option_map plain (finish_of moment behind) ≡ Some said → SaysFinish moment text said
+unfolding finish_of
+finish_says moment text word behind said cut same is =
+    let first = first_is text word behind (codes "finish") cut same in
+    let event = found_map plain (finish_of moment behind) said is in
+    let delivery = found_first (parts_at SPACE behind) _ event.0 event.1 in
+    let number = found_first (number_of delivery.0.0) _ event.0 delivery.2 in
+    let status = found_first (parts_at SPACE delivery.0.1) _ event.0 number.2 in
+    let code = found_first (number_between 100 999 status.0.0) _ event.0 status.2 in
+    let total = found_first (parts_at SPACE status.0.1) _ event.0 code.2 in
+    let sent = found_first (number_of total.0.0) _ event.0 total.2 in
+    let content = found_map (λ entity. Finish number.0 code.0 sent.0 entity moment) (number_of total.0.1) event.0 sent.2 in
+    let d = word_says behind delivery.0.0 delivery.0.1 delivery.1 in
+    let s = word_says delivery.0.1 status.0.0 status.0.1 status.1 in
+    let t = word_says status.0.1 total.0.0 total.0.1 total.1 in
+    let coded = between_says 100 999 status.0.0 code.0 code.1 in
+    record {
+      number = delivery.0.0;
+      status = status.0.0;
+      total = total.0.0;
+      entity = total.0.1;
+      delivery = number.0;
+      code = code.0;
+      sent = sent.0;
+      content = content.0;
+      words = (behind, first.0, first.1, (delivery.0.1, d.0, d.1, (status.0.1, s.0, s.1, (total.0.1, t.0, t.1, refl))));
+      numbered = number_says delivery.0.0 number.0 number.1;
+      coded = coded.0;
+      ranged = coded.1;
+      whole = number_says total.0.0 sent.0 sent.1;
+      part = number_says total.0.1 content.0 content.1;
+      call = said_plainly event.0 (Finish number.0 code.0 sent.0 content.0 moment) said event.2 content.2;
+    }
+
+says_finish : (moment : ℕ) (text : List ℕ) (said : Noted) → SaysFinish moment text said → (behind : List ℕ) × (text ≡ codes "finish" ++ SPACE ∷ behind) × (option_map plain (finish_of moment behind) ≡ Some said)
+unfolding finish_of
+says_finish moment text said is =
+    let first = is.words in
+    let d = first.3 in
+    let s = d.3 in
+    let t = s.3 in (
+      first.0,
+      first.1,
+      ap (option_map plain)
+          (found_then (parts_at SPACE first.0) _ (is.number, d.0) _ (says_word first.0 is.number d.0 d.1 d.2)
+          (found_then (number_of is.number) _ is.delivery _ (says_number is.number is.delivery is.numbered)
+          (found_then (parts_at SPACE d.0) _ (is.status, s.0) _ (says_word d.0 is.status s.0 s.1 s.2)
+          (found_then (number_between 100 999 is.status) _ is.code _ (says_between 100 999 is.status is.code is.coded is.ranged.0 is.ranged.1)
+          (found_then (parts_at SPACE s.0) _ (is.total, t.0) _ (says_word s.0 is.total t.0 t.1 t.2)
+          (found_then (number_of is.total) _ is.sent _ (says_number is.total is.sent is.whole)
+          (ap (option_map (λ entity. Finish is.delivery is.code is.sent entity moment)) (ap number_of t.3 ∙ says_number is.entity is.content is.part))))))))
+          ∙ ap Some (sym is.call),
+    )
+
 -- ---- calls and lines
 
 -- what a word that is none of those before stands for
 worded_says : (moment : ℕ) (text word behind : List ℕ) (said : Noted) → parts_at SPACE text ≡ Some (word, behind) → worded moment (word, behind) ≡ Some said
-    → SaysMeta moment text said ⊎ (SaysGet moment text said ⊎ (SaysGot moment text said ⊎ (SaysLost moment text said ⊎ SaysMetafail moment text said)))
+    → SaysMeta moment text said ⊎ (SaysGet moment text said ⊎ (SaysGot moment text said ⊎ (SaysLost moment text said ⊎ (SaysMetafail moment text said ⊎ SaysFinish moment text said))))
 worded_says moment text word behind said cut is = elim (cases_Bool (bytes_eq word (codes "meta"))) [
   | inl meta ↦ inl (meta_says moment text word behind said cut meta (sym (cond-true _ _ _ meta) ∙ is))
   | inr no_meta ↦ inr (elim (cases_Bool (bytes_eq word (codes "get"))) [
@@ -547,9 +615,13 @@ worded_says moment text word behind said cut is = elim (cases_Bool (bytes_eq wor
       | inr no_got ↦ inr (elim (cases_Bool (bytes_eq word (codes "lost"))) [
         | inl lost ↦ inl (lost_says moment text word behind said cut lost (sym (cond-true _ _ _ lost) ∙ sym (cond-false _ _ _ no_got) ∙ sym (cond-false _ _ _ no_get) ∙ sym (cond-false _ _ _ no_meta) ∙ is))
         | inr no_lost ↦
-            let last = found_if (bytes_eq word (codes "metafail")) (option_map plain (metafail_of moment behind)) said
-            (sym (cond-false _ _ _ no_lost) ∙ sym (cond-false _ _ _ no_got) ∙ sym (cond-false _ _ _ no_get) ∙ sym (cond-false _ _ _ no_meta) ∙ is) in
-            inr (metafail_says moment text word behind said cut last.0 last.1)
+            let rest = sym (cond-false _ _ _ no_lost) ∙ sym (cond-false _ _ _ no_got) ∙ sym (cond-false _ _ _ no_get) ∙ sym (cond-false _ _ _ no_meta) ∙ is in
+            inr (elim (cases_Bool (bytes_eq word (codes "metafail"))) [
+              | inl metafail ↦ inl (metafail_says moment text word behind said cut metafail (sym (cond-true _ _ _ metafail) ∙ rest))
+              | inr no_metafail ↦
+                  let last = found_if (bytes_eq word (codes "finish")) (option_map plain (finish_of moment behind)) said (sym (cond-false _ _ _ no_metafail) ∙ rest) in
+                  inr (finish_says moment text word behind said cut last.0 last.1)
+            ])
       ])
     ])
   ])
@@ -575,23 +647,10 @@ says_call moment text said (inr (inl is)) = let m = says_meta moment text said i
 says_call moment text said (inr (inr (inl is))) = let m = says_get moment text said is in says_word_call moment text (codes "get") m.0 said refl refl m.1 m.2
 says_call moment text said (inr (inr (inr (inl is)))) = let m = says_got moment text said is in says_word_call moment text (codes "got") m.0 said refl refl m.1 m.2
 says_call moment text said (inr (inr (inr (inr (inl is))))) = let m = says_lost moment text said is in says_word_call moment text (codes "lost") m.0 said refl refl m.1 m.2
-says_call moment text said (inr (inr (inr (inr (inr is))))) = let m = says_metafail moment text said is in says_word_call moment text (codes "metafail") m.0 said refl refl m.1 m.2
+says_call moment text said (inr (inr (inr (inr (inr (inl is)))))) = let m = says_metafail moment text said is in says_word_call moment text (codes "metafail") m.0 said refl refl m.1 m.2
+says_call moment text said (inr (inr (inr (inr (inr (inr is)))))) = let m = says_finish moment text said is in says_word_call moment text (codes "finish") m.0 said refl refl m.1 m.2
 
 -- ---- the limits
-
-between_says : (least most : ℕ) (text : List ℕ) (n : ℕ) → number_between least most text ≡ Some n → IsNumber text n × (least ≤ n) × (n ≤ most)
-unfolding number_between
-between_says least most text n is =
-    let found = found_first (number_of text) _ n is in
-    let within = found_if (nat_le least found.0 && nat_le found.0 most) (Some found.0) n found.2 in
-    let same : found.0 ≡ n = same_some within.1 in
-    let parts = and_parts (nat_le least found.0) (nat_le found.0 most) within.0 in
-    subst (λ k. IsNumber text k × (least ≤ k) × (k ≤ most)) same (number_says text found.0 found.1, leb-true _ _ parts.0, leb-true _ _ parts.1)
-
-says_between : (least most : ℕ) (text : List ℕ) (n : ℕ) → IsNumber text n → least ≤ n → n ≤ most → number_between least most text ≡ Some n
-unfolding number_between
-says_between least most text n is low high =
-    found_then (number_of text) _ n _ (says_number text n is) (cond-true _ _ _ (and_from (nat_le least n) (nat_le n most) (le-leb _ _ low) (le-leb _ _ high)))
 
 -- what six words say of the limits
 record AreLimits (cache rows triggers files period opened : List ℕ) (limits : Bounds) : Type 0 where

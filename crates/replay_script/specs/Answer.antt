@@ -80,6 +80,7 @@ answer_line (reply.Hit delivery fetch kind body) said =
 answer_line (reply.Ended kept) said = ended_text kept
 answer_line (reply.Full count) said = numbered (codes "full") count
 answer_line (reply.NotOpen number) said = numbered (codes "not-open") number
+answer_line (reply.Logged row) said = numbered (codes "logged") row
 answer_line (reply.Due refresh) said = numbered (codes "due") refresh
 answer_line (reply.NotDue next) said = numbered (codes "not-due") next
 answer_line (reply.Installed generation) said = numbered (codes "installed") generation

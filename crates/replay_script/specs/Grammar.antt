@@ -1,5 +1,5 @@
 -- The grammar of a script's lines.
-use Rattle.std.specs.Prelude.{◌≡◌, ◌≢◌, ℕ, ◌^◌, ◌<◌, Bool, false, not, IsTrue, List, [], ◌∷◌, ◌++◌, codes, bytes_eq, decimal, length, None, Some, Ok, Err, ◌⊎◌, ◌==◌, ◌&&◌, ◌||◌, nat_lt, nat_le, if◌then◌else◌}
+use Rattle.std.specs.Prelude.{◌≤◌, ◌≡◌, ◌≢◌, ℕ, ◌^◌, ◌<◌, Bool, false, not, IsTrue, List, [], ◌∷◌, ◌++◌, codes, bytes_eq, decimal, length, None, Some, Ok, Err, ◌⊎◌, ◌==◌, ◌&&◌, ◌||◌, nat_lt, nat_le, if◌then◌else◌}
 use Rattle.std.specs.Char.{is_ascii_alphanumeric}
 use Rattle.std.specs.List.{list_all, list_any, slice_split}
 use Rattle.std.specs.Option.{option_map}
@@ -27,7 +27,7 @@ use Rattle.upstream_gate.specs.declared.outcome.Outcome.TheVariants as outcome
 use Rattle.hex.specs.Hex.{decode_of}
 use Rattle.cdni_base.specs.Limits.{Bounds, AreInRange}
 use Rattle.cdni_base.specs.declared.type_name.TheConstants.{TYPE_NAME_MAX}
-use Rattle.history.specs.Event.{Event, RefreshBegin, RefreshEnd, Admit, FetchEnd}
+use Rattle.history.specs.Event.{Event, RefreshBegin, RefreshEnd, Admit, FetchEnd, Finish}
 use Rattle.replay_script.specs.Call.{Noted, Said, Scripted, Sets, Calls}
 use Rattle.replay_script.specs.declared.grammar.TheConstants.{SPACE, BAR, LONGEST_METHOD}
 
@@ -178,6 +178,12 @@ lost_of moment text = option_map (λ fetch. FetchEnd fetch outcome.Failed moment
 abbrev pub metafail_of : ℕ → List ℕ → Option Event
 metafail_of moment text = option_map (λ refresh. RefreshEnd refresh None moment) (number_of text)
 
+-- D STATUS TOTAL ENTITY
+unfoldable pub finish_of : ℕ → List ℕ → Option Event
+finish_of moment text = parts_at SPACE text >>= λ delivery. number_of delivery.0 >>= λ number. parts_at SPACE delivery.1
+    >>= λ status. number_between 100 999 status.0 >>= λ code. parts_at SPACE status.1 >>= λ total. number_of total.0
+    >>= λ sent. option_map (λ entity. Finish number code sent entity moment) (number_of total.1)
+
 -- ---- a line
 
 -- a word and what stands after the space behind it
@@ -186,7 +192,8 @@ worded moment word = if bytes_eq word.0 (codes "meta") then meta_of moment word.
     else (if bytes_eq word.0 (codes "get") then option_map plain (get_of moment word.1)
     else (if bytes_eq word.0 (codes "got") then option_map plain (got_of moment word.1)
     else (if bytes_eq word.0 (codes "lost") then option_map plain (lost_of moment word.1)
-    else (if bytes_eq word.0 (codes "metafail") then option_map plain (metafail_of moment word.1) else None))))
+    else (if bytes_eq word.0 (codes "metafail") then option_map plain (metafail_of moment word.1)
+    else (if bytes_eq word.0 (codes "finish") then option_map plain (finish_of moment word.1) else None)))))
 
 unfoldable pub call_of : ℕ → List ℕ → Option Noted
 call_of moment text = if bytes_eq text (codes "refresh") then Some (plain (RefreshBegin moment))
@@ -314,10 +321,29 @@ pub record SaysMetafail (moment : ℕ) (text : List ℕ) (said : Noted) : Type 0
   pub numbered : IsNumber number refresh
   pub call : said ≡ plain (RefreshEnd refresh None moment)
 
--- one of the six calls
+-- finish D STATUS TOTAL ENTITY
+pub record SaysFinish (moment : ℕ) (text : List ℕ) (said : Noted) : Type 0 where
+  pub number : List ℕ
+  pub status : List ℕ
+  pub total : List ℕ
+  pub entity : List ℕ
+  pub delivery : ℕ
+  pub code : ℕ
+  pub sent : ℕ
+  pub content : ℕ
+  pub words : IsWords (codes "finish" ∷ number ∷ status ∷ total ∷ []) entity text
+  pub numbered : IsNumber number delivery
+  pub coded : IsNumber status code
+  pub ranged : (100 ≤ code) × (code ≤ 999)
+  pub whole : IsNumber total sent
+  pub part : IsNumber entity content
+  pub call : said ≡ plain (Finish delivery code sent content moment)
+
+-- one of the seven calls
 abbrev pub SaysCall : ℕ → List ℕ → Noted → Type 0
 SaysCall moment text said = SaysRefresh moment text said ⊎ (SaysMeta moment text said ⊎ (SaysGet moment text said
-    ⊎ (SaysGot moment text said ⊎ (SaysLost moment text said ⊎ SaysMetafail moment text said))))
+    ⊎ (SaysGot moment text said ⊎ (SaysLost moment text said ⊎ (SaysMetafail moment text said
+    ⊎ SaysFinish moment text said)))))
 
 -- PASS MOMENT and a call
 pub record SaysScripted (line : List ℕ) (said : Scripted) : Type 0 where

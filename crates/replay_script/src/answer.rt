@@ -40,6 +40,7 @@ pub(crate) fn put_answer(
         Reply::Ended { kept } => put(out, ended_text(*kept)),
         Reply::Full { count } => put_numbered(out, b"full", *count),
         Reply::NotOpen { number } => put_numbered(out, b"not-open", *number),
+        Reply::Logged { row } => put_numbered(out, b"logged", *row),
         Reply::Due { refresh } => put_numbered(out, b"due", *refresh),
         Reply::NotDue { next } => put_numbered(out, b"not-due", *next),
         Reply::Installed { generation } => put_numbered(out, b"installed", *generation),

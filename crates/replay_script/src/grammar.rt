@@ -5,7 +5,7 @@ ghost use Rattle.std.specs.List.{list_all};
 ghost use Rattle.metadata_objects.specs.Host.{host_index_of_text};
 ghost use Rattle.node_core.specs.Call.{event_of};
 ghost use Rattle.replay_script.specs.Call.{noted_of, said_of, Sets};
-ghost use Rattle.replay_script.specs.Grammar.{number_below, number_between, bounds_of, limits_of, got_of, lost_of, metafail_of, content_of, kind_of, is_kind, is_graphic_byte, body_of, url_target, key_of_url, keys_of, is_token_byte, is_method, protocol_of, place_at, asked_of, get_of, refreshed, meta_of, plain, call_of, scripted_of, line_of, ReadsAs};
+ghost use Rattle.replay_script.specs.Grammar.{number_below, number_between, bounds_of, limits_of, finish_of, got_of, lost_of, metafail_of, content_of, kind_of, is_kind, is_graphic_byte, body_of, url_target, key_of_url, keys_of, is_token_byte, is_method, protocol_of, place_at, asked_of, get_of, refreshed, meta_of, plain, call_of, scripted_of, line_of, ReadsAs};
 
 use crate::call::{NotedCall, ScriptLine};
 use cdni_base::{
@@ -169,6 +169,9 @@ fn read_call(alloc: Global, moment: Moment, text: &[u8]) -> Result<Option<NotedC
     if word == b"metafail".as_slice() {
         return Ok(read_metafail(moment, rest).map(plain));
     }
+    if word == b"finish".as_slice() {
+        return Ok(read_finish(moment, rest).map(plain));
+    }
     Ok(None)
 }
 
@@ -316,6 +319,27 @@ fn read_metafail(moment: Moment, text: &[u8]) -> Option<Call>
         }),
         None => None,
     }
+}
+
+// D STATUS TOTAL ENTITY
+#[tactic(auto, unfolding(crate::specs::Grammar::finish_of))]
+fn read_finish(moment: Moment, text: &[u8]) -> Option<Call>
+    ensures { option_map event_of result ≡ finish_of moment text.now }
+{
+    let (delivery, rest) = cut_at(SPACE, text)?;
+    let delivery = read_decimal(delivery)?;
+    let (status, rest) = cut_at(SPACE, rest)?;
+    let status = read_between(100, 999, status)?;
+    let (total, entity) = cut_at(SPACE, rest)?;
+    let total = read_decimal(total)?;
+    let entity = read_decimal(entity)?;
+    Some(Call::Finish {
+        delivery,
+        status: status as u16,
+        total,
+        entity,
+        moment,
+    })
 }
 
 // the content of a status, a content type and a body

@@ -6,7 +6,6 @@ pub invariant_of-self : goal.invariant_of-self
 invariant_of-self c =
     let i = c.self.invariant in (
       i.0,
-      i.1,
-      rw c.take.ensures.after (up_to_filter _ _ _ i.2),
-      rw c.take.ensures.after (filter_few _ _ _ _ i.3),
+      rw c.take.ensures.after (up_to_filter _ _ _ i.1),
+      rw c.take.ensures.after (filter_few _ _ _ _ i.2),
     )

@@ -1,0 +1,7 @@
+//! The side of the core that keeps log files. It sees no history: its value is what a history leaves of them, without
+//! positions.
+#![tactic(auto)]
+
+mod control;
+
+pub use control::{Control, LogFile};

@@ -2,3 +2,4 @@ pub mod Lists
 pub mod Places
 pub mod Entries
 pub mod FetchLaw
+pub mod MetadataLaw

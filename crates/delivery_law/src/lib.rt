@@ -3,3 +3,4 @@
 #![tactic(auto)]
 
 pub mod fetches;
+pub mod metadata;

@@ -3,3 +3,5 @@ pub mod Places
 pub mod Entries
 pub mod FetchLaw
 pub mod MetadataLaw
+pub mod Deliveries
+pub mod LogLaw

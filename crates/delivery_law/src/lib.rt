@@ -3,4 +3,5 @@
 #![tactic(auto)]
 
 pub mod fetches;
+pub mod log_rows;
 pub mod metadata;

@@ -5,3 +5,4 @@ pub mod FetchLaw
 pub mod MetadataLaw
 pub mod Deliveries
 pub mod LogLaw
+pub mod StartLaw

@@ -5,3 +5,4 @@
 pub mod fetches;
 pub mod log_rows;
 pub mod metadata;
+pub mod starts;

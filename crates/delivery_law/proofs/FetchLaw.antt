@@ -10,7 +10,9 @@ use Rattle.cdni_base.specs.declared.asked.Asked.{Asked}
 use Rattle.location_acl.specs.declared.footprint.Place.{Place}
 use Rattle.targets.specs.declared.endpoint.Endpoint.{Endpoint}
 use Rattle.targets.specs.declared.target.Target.{Target}
-use Rattle.trigger_command.specs.Selection.{hits}
+use Rattle.trigger_command.specs.Selection.{Hits, hits}
+use Rattle.trigger_command.specs.declared.selection.Selection.{Selection}
+use Rattle.trigger_command.proofs.SelectionLemmas.{hits_decides}
 use Rattle.upstream_gate.specs.declared.outcome.Outcome.TheVariants as outcome
 use Rattle.history.proofs.Cases.{admit_cases}
 use Rattle.history.proofs.Numbers.{entries_are}
@@ -46,7 +48,10 @@ pub record FetchLaw (made : Made) (h : History) : Type 0 where
 
 -- this start is not after the position, or does not hit it
 abbrev Unhit : ℕ → Fetching → Start → Type 0
-Unhit at what start = at < start.at → hits start.selection what.key what.ccid ≡ false
+Unhit at what start = at < start.at → Hits start.selection what.key what.ccid → ⊥
+
+misses : (selection : Selection) (key : KeyParts) (ccid : Option (List ℕ)) → hits selection key ccid ≡ false → Hits selection key ccid → ⊥
+misses selection key ccid fails is = both_ways _ fails ((hits_decides selection key ccid).1 is)
 
 module _ (made : Made) (h : History) (e : Entry) where
   abbrev w : World
@@ -66,7 +71,7 @@ module _ (made : Made) (h : History) (e : Entry) where
 
   unhit_longer : (at : ℕ) (what : Fetching) → NoStartHits made h at what → All (λ (s : Start). hits s.selection what.key what.ccid ≡ false) (new_starts w e (reply_to made h e)) → NoStartHits made h' at what
   unhit_longer at what old new = All-same (Unhit at what) _ _ starts_push
-      (All-append (Unhit at what) w.delivering.starts (new_starts w e (reply_to made h e)) old (All-weaker (λ (s : Start). hits s.selection what.key what.ccid ≡ false) (Unhit at what) (λ s no since. no) _ new))
+      (All-append (Unhit at what) w.delivering.starts (new_starts w e (reply_to made h e)) old (All-weaker (λ (s : Start). hits s.selection what.key what.ccid ≡ false) (Unhit at what) (λ s free since. misses s.selection what.key what.ccid free) _ new))
 
   begins : (law : FetchLaw made h) (fetch : ℕ) (target : Target) → begun_fetch (reply_to made h e) ≡ Some fetch → fetched_target e.1 (reply_to made h e) ≡ Some target → HasBegun made h' (begun_by w e fetch target)
   begins law fetch target number targeted = record {
@@ -95,7 +100,7 @@ module _ (made : Made) (h : History) (e : Entry) where
   not_since : (at : ℕ) (what : Fetching) (starts : List Start) → is_hit_since starts at what.key what.ccid ≡ false → All (Unhit at what) starts
   not_since at what starts is = All-weaker (λ (s : Start). (nat_lt at s.at && hits s.selection what.key what.ccid) ≡ false) (Unhit at what) (λ s no since. elim (and_cases (nat_lt at s.at) (hits s.selection what.key what.ccid) no) [
     | inl early ↦ absurd (both_ways _ early (lt-ltb at s.at since))
-    | inr free ↦ free
+    | inr free ↦ misses s.selection what.key what.ccid free
   ]) starts (no_any _ starts is)
 
   gains : (law : FetchLaw made h) (k : Kept) → GainedBy w e (reply_to made h e) k → WasFetched made h' k

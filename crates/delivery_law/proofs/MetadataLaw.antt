@@ -12,11 +12,13 @@ use Rattle.cdni_base.specs.declared.rule.Rule.TheVariants as rule
 use Rattle.location_acl.specs.declared.footprint.Place.{Place}
 use Rattle.metadata_objects.specs.LevelData.{Index}
 use Rattle.metadata_objects.specs.Tree.{TreeData}
-use Rattle.trigger_command.specs.Selection.{hits_metadata}
-use Rattle.history.proofs.Cases.{advance_cases, begin_cases, either, opening_cases}
+use Rattle.trigger_command.specs.Selection.{HitsMetadata, hits_metadata}
+use Rattle.trigger_command.specs.declared.selection.Selection.{Selection}
+use Rattle.trigger_command.proofs.SelectionLemmas.{metadata_decides}
+use Rattle.history.proofs.Cases.{admit_cases, advance_cases, begin_cases, cancel_cases, command_cases, cut_cases, delete_cases, drop_cases, either, fetch_end_cases, finish_cases, list_cases, log_cases, logs_cases, opening_cases, status_cases}
 use Rattle.history.proofs.Numbers.{entries_are, tree_is}
 use Rattle.history.proofs.Words.{world_none, world_push}
-use Rattle.history.specs.After.{after, after_reply, begun_refresh, installed_by, position, refreshes_after, tree_after}
+use Rattle.history.specs.After.{after, after_reply, begun_refresh, installation, installed_by, position, refreshes_after, tree_after}
 use Rattle.history.specs.Event.{Entry, Event, History, Admit, FetchEnd, Finish, RefreshBegin, RefreshEnd, Command, Advance, Cancel, Delete, ReadStatus, Lists, Cut, LogFile, ListLogs, DropLog}
 use Rattle.history.specs.History.{reply_to, world_of}
 use Rattle.history.specs.Metadata.{forbidden, is_served, rule_at, rule_in}
@@ -27,7 +29,7 @@ use Rattle.history.specs.declared.reply.Reply.{Reply}
 use Rattle.history.specs.declared.reply.Reply.TheVariants as reply
 use Rattle.delivery_law.specs.Metadata.{HasUnhitMetadata, RefreshBegan, WasInstalled, is_read_from_metadata, uses_metadata}
 use Rattle.delivery_law.proofs.Lists.{found_any, found_is, no_any, none_found}
-use Rattle.delivery_law.proofs.Places.{from_right, length_push, longer, within}
+use Rattle.delivery_law.proofs.Places.{answered_push, from_right, length_push, longer, within}
 
 -- ---- refreshes
 
@@ -76,14 +78,16 @@ record InstalledBy (w : World) (e : Entry) (r : Reply) (installed : Installed) :
   answer : r ≡ reply.Installed generation
   this : installed ≡ installed_by refresh tree begun
 
-module _ (w : World) (Q : Installed → Type 0) (old : (i : Installed) → w.delivering.tree ≡ Some i → Q i) where
+module _ (w : World) (Q : Installed → Type 0) where
+  -- the metadata stays, and nothing was installed, or the entry installed it
   abbrev Trees : Entry → Reply → Type 0
-  Trees e r = ((i : Installed) → InstalledBy w e r i → Q i) → (i : Installed) → tree_after w e r ≡ Some i → Q i
+  Trees e r = ((i : Installed) → w.delivering.tree ≡ Some i → installation r ≡ None → Q i)
+      → ((i : Installed) → InstalledBy w e r i → Q i) → (i : Installed) → tree_after w e r ≡ Some i → Q i
 
   module _ (pass refresh moment : ℕ) where
     installs : (tree : TreeData) (begun : Begun ℕ) → find (is_open refresh pass) w.delivering.refreshes ≡ Some begun → (later : Option ℕ) → Trees (pass, RefreshEnd refresh (Some tree) moment) (install_reply w.counts.installed later)
-    installs tree begun is (Some later) new i now = old i now
-    installs tree begun is None new i now = new i (record {
+    installs tree begun is (Some later) old new i now = old i now refl
+    installs tree begun is None old new i now = new i (record {
       refresh = refresh;
       tree = tree;
       moment = moment;
@@ -96,37 +100,42 @@ module _ (w : World) (Q : Installed → Type 0) (old : (i : Installed) → w.del
     })
 
     fresh : (tree : TreeData) (begun : Begun ℕ) → find (is_open refresh pass) w.delivering.refreshes ≡ Some begun → (hit : Option ℕ) → Trees (pass, RefreshEnd refresh (Some tree) moment) (fresh_reply w refresh hit)
-    fresh tree begun is (Some trigger) new i now = old i now
-    fresh tree begun is None new i now = installs tree begun is (option_and_then (newer_than refresh) w.delivering.tree) new i now
+    fresh tree begun is (Some trigger) old new i now = old i now refl
+    fresh tree begun is None old new i now = installs tree begun is (option_and_then (newer_than refresh) w.delivering.tree) old new i now
 
     ended_by : (tree : Option TreeData) (found : Option (Begun ℕ)) → find (is_open refresh pass) w.delivering.refreshes ≡ found → Trees (pass, RefreshEnd refresh tree moment) (refresh_end_reply w refresh tree found)
-    ended_by None found is new i now = old i now
-    ended_by (Some tree) None is new i now = old i now
-    ended_by (Some tree) (Some begun) is new i now = fresh tree begun is (first_hit w.delivering.starts begun.at tree.resources) new i now
+    ended_by None None is old new i now = old i now refl
+    ended_by None (Some begun) is old new i now = old i now refl
+    ended_by (Some tree) None is old new i now = old i now refl
+    ended_by (Some tree) (Some begun) is old new i now = fresh tree begun is (first_hit w.delivering.starts begun.at tree.resources) old new i now
 
     tree_ended : (tree : Option TreeData) → Trees (pass, RefreshEnd refresh tree moment) (reply_in w (pass, RefreshEnd refresh tree moment))
     unfolding reply_in
     tree_ended tree = ended_by tree (find (is_open refresh pass) w.delivering.refreshes) refl
 
+  abbrev None_installed : Reply → Type 0
+  None_installed r = installation r ≡ None
+
   trees : (e : Entry) → Trees e (reply_in w e)
   trees (pass, RefreshEnd refresh tree moment) = tree_ended pass refresh moment tree
-  trees (pass, Admit asked place moment) = λ new. old
-  trees (pass, FetchEnd fetch outcome moment) = λ new. old
-  trees (pass, Finish delivery status total entity moment) = λ new. old
-  trees (pass, RefreshBegin moment) = λ new. old
-  trees (pass, Command spec moment) = λ new. old
-  trees (pass, Advance id moment) = λ new. old
-  trees (pass, Cancel ids moment) = λ new. old
-  trees (pass, Delete id) = λ new. old
-  trees (pass, ReadStatus id) = λ new. old
-  trees (pass, Lists filter) = λ new. old
-  trees (pass, Cut moment) = λ new. old
-  trees (pass, LogFile number) = λ new. old
-  trees (pass, ListLogs) = λ new. old
-  trees (pass, DropLog number) = λ new. old
+  trees (pass, Admit asked place moment) = λ old new i now. old i now (admit_cases w pass asked place moment None_installed (λ n. refl) (λ rule. refl) (λ kept is. refl) (λ is. refl))
+  trees (pass, FetchEnd fetch outcome moment) = λ old new i now. old i now (fetch_end_cases w pass None_installed fetch outcome moment refl (λ a b. refl))
+  trees (pass, Finish delivery status total entity moment) = λ old new i now. old i now (finish_cases w pass None_installed delivery status total entity moment refl refl)
+  trees (pass, RefreshBegin moment) = λ old new i now. old i now (begin_cases w pass None_installed moment (λ n. refl) (λ n. refl) refl)
+  trees (pass, Command spec moment) = λ old new i now. old i now (command_cases w pass None_installed spec moment (λ n. refl) refl)
+  trees (pass, Advance id moment) = λ old new i now. old i now (advance_cases w pass None_installed (λ n. refl) (λ n. refl) (λ n. refl) (λ n. refl) refl refl (λ n. refl) (λ n. refl) id moment refl)
+  trees (pass, Cancel ids moment) = λ old new i now. old i now (cancel_cases w pass None_installed ids moment (λ n. refl) (λ n. refl))
+  trees (pass, Delete id) = λ old new i now. old i now (delete_cases w pass None_installed id refl refl)
+  trees (pass, ReadStatus id) = λ old new i now. old i now (status_cases w pass None_installed id refl (λ n. refl))
+  trees (pass, Lists filter) = λ old new i now. old i now (list_cases w pass None_installed filter (λ n. refl))
+  trees (pass, Cut moment) = λ old new i now. old i now (cut_cases w pass None_installed moment refl (λ n. refl) refl)
+  trees (pass, LogFile number) = λ old new i now. old i now (log_cases w pass None_installed number refl (λ n. refl))
+  trees (pass, ListLogs) = λ old new i now. old i now (logs_cases w pass None_installed (λ n. refl))
+  trees (pass, DropLog number) = λ old new i now. old i now (drop_cases w pass None_installed number refl refl)
 
-  each_tree : (e : Entry) → ((i : Installed) → InstalledBy w e (reply_in w e) i → Q i) → (i : Installed) → (after w e).delivering.tree ≡ Some i → Q i
-  each_tree e new i now = trees e new i (sym (tree_is w e) ∙ now)
+  each_tree : (e : Entry) → ((i : Installed) → w.delivering.tree ≡ Some i → installation (reply_in w e) ≡ None → Q i) → ((i : Installed) → InstalledBy w e (reply_in w e) i → Q i)
+      → (i : Installed) → (after w e).delivering.tree ≡ Some i → Q i
+  each_tree e old new i now = trees e old new i (sym (tree_is w e) ∙ now)
 
 -- ---- over histories
 
@@ -148,8 +157,12 @@ module _ (made : Made) (h : History) (e : Entry) where
   began_longer : {at pass refresh : ℕ} → RefreshBegan made h at pass refresh → RefreshBegan made h' at pass refresh
   began_longer b = record { event = b.event; answer = b.answer; answered = longer e b.answered; number = b.number }
 
-  stays : (i : Installed) → WasInstalled made h i → WasInstalled made h' i
-  stays i was = record {
+  stays : (i : Installed) → WasInstalled made h i → installation (reply_to made h e) ≡ None → WasInstalled made h' i
+  stays i was none = record {
+    last = λ at entry generation answered. elim (answered_push made h e at entry (reply.Installed generation) answered) [
+      | inl old ↦ was.last at entry generation old
+      | inr new ↦ absurd (none-some generation (sym none ∙ ap installation new.2))
+    ];
     pass = was.pass;
     ended = was.ended;
     in_order = was.in_order;
@@ -174,6 +187,7 @@ module _ (made : Made) (h : History) (e : Entry) where
         pass = e.0;
         ended = length h + 1;
         in_order = omega (arith, within found.0.answered);
+        last = λ at entry generation answered. let low = within answered in let long = length_push h e in omega (arith, low, long);
         begun = began_longer (subst (λ n. RefreshBegan made h b.at e.0 n) (eqb-true b.number by.refresh same.0) (subst (λ p. RefreshBegan made h b.at p b.number) (eqb-true b.pass e.0 same.1) found.0));
         brought = record {
           moment = by.moment;
@@ -194,7 +208,7 @@ module _ (made : Made) (h : History) (e : Entry) where
     entries = ap (λ (v : World). v.entries) (world_push made h e) ∙ entries_are w e ∙ ap (λ n. n + 1) law.entries ∙ sym (length_push h e);
     opened = subst (λ (v : World). All (HasBegun made h') v.delivering.refreshes) (sym (world_push made h e))
         (each_refresh w (HasBegun made h') (All-weaker (HasBegun made h) (HasBegun made h') (λ f begun. began_longer begun) w.delivering.refreshes law.opened) e (begins law));
-    tree = λ i is. each_tree w (WasInstalled made h') (λ i now. stays i (law.tree i now)) e (installed law) i
+    tree = λ i is. each_tree w (WasInstalled made h') e (λ i now none. stays i (law.tree i now) none) (installed law) i
         (sym (ap (λ (v : World). v.delivering.tree) (world_push made h e)) ∙ is);
   }
 
@@ -254,11 +268,20 @@ no_map : {A B : Type 0} (f : A → B) (o : Option A) → option_map f o ≡ None
 no_map f None is = refl
 no_map f (Some x) is = absurd (none-some (f x) (sym is))
 
-not_since : (at : ℕ) (resources : List KeyParts) (starts : List Start) → first_hit starts at resources ≡ None → All (λ (s : Start). at < s.at → All (λ resource. hits_metadata s.selection resource ≡ false) resources) starts
-not_since at resources starts is = All-weaker (λ (s : Start). (nat_lt at s.at && list_any (hits_metadata s.selection) resources) ≡ false) (λ (s : Start). at < s.at → All (λ resource. hits_metadata s.selection resource ≡ false) resources) (λ s fails since. elim (and_cases (nat_lt at s.at) (list_any (hits_metadata s.selection) resources) fails) [
-  | inl early ↦ absurd (both_ways _ early (lt-ltb at s.at since))
-  | inr free ↦ no_any (hits_metadata s.selection) resources free
-]) starts (none_found _ starts (no_map (λ (s : Start). s.trigger) _ is))
+-- the start is not after the position, or hits none of these
+abbrev Unhit : ℕ → List KeyParts → Start → Type 0
+Unhit at resources start = at < start.at → All (λ resource. HitsMetadata start.selection resource → ⊥) resources
+
+misses : (selection : Selection) (resources : List KeyParts) → list_any (hits_metadata selection) resources ≡ false → All (λ resource. HitsMetadata selection resource → ⊥) resources
+misses selection resources free = All-weaker (λ resource. hits_metadata selection resource ≡ false) (λ resource. HitsMetadata selection resource → ⊥)
+    (λ resource fails is. both_ways _ fails ((metadata_decides selection resource).1 is)) resources (no_any (hits_metadata selection) resources free)
+
+not_since : (at : ℕ) (resources : List KeyParts) (starts : List Start) → first_hit starts at resources ≡ None → All (Unhit at resources) starts
+not_since at resources starts is = All-weaker (λ (s : Start). (nat_lt at s.at && list_any (hits_metadata s.selection) resources) ≡ false) (Unhit at resources)
+    (λ s fails since. elim (and_cases (nat_lt at s.at) (list_any (hits_metadata s.selection) resources) fails) [
+      | inl early ↦ absurd (both_ways _ early (lt-ltb at s.at since))
+      | inr free ↦ misses s.selection resources free
+    ]) starts (none_found _ starts (no_map (λ (s : Start). s.trigger) _ is))
 
 pub unhit_metadata : (made : Made) (h : History) (pass : ℕ) (asked : Asked) (place : Place) (moment : ℕ)
     → IsTrue (uses_metadata (reply_to made h (pass, Admit asked place moment))) → HasUnhitMetadata made h

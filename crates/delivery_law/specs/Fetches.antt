@@ -1,10 +1,10 @@
 -- Fetches by their positions: where each began and was ended, and what has hit it since.
-use Rattle.std.specs.Prelude.{◌≡◌, ℕ, ◌+◌, ◌<◌, true, false, List, [], ◌∷◌, ◌++◌, length, All, None, Some}
+use Rattle.std.specs.Prelude.{◌≡◌, ℕ, ◌+◌, ◌<◌, true, List, [], ◌∷◌, ◌++◌, length, All, None, Some}
 use Rattle.std.specs.declared.option.Option.{Option}
 use Rattle.metadata_objects.specs.LevelData.{Index}
 use Rattle.targets.specs.declared.endpoint.Endpoint.{Endpoint}
 use Rattle.targets.specs.declared.target.Target.{Target}
-use Rattle.trigger_command.specs.Selection.{hits}
+use Rattle.trigger_command.specs.Selection.{Hits}
 use Rattle.upstream_gate.specs.Got.{GotParts}
 use Rattle.upstream_gate.specs.declared.outcome.Outcome.TheVariants as outcome
 use Rattle.history.specs.After.{begun_fetch}
@@ -52,10 +52,10 @@ pub record FetchBrought (made : Made) (h : History) (at pass fetch : ℕ) (kind 
 
 -- no start after this position hits the key or the collection
 abbrev pub NoStartHits : Made → History → ℕ → Fetching → Type 0
-NoStartHits made h at what = All (λ start. at < start.at → hits start.selection what.key what.ccid ≡ false)
+NoStartHits made h at what = All (λ start. at < start.at → Hits start.selection what.key what.ccid → ⊥)
     (world_of made h).delivering.starts
 
--- this fetch began, and was ended later by the pass that began it with this content, and no start since it began hits it
+-- this fetch began, and the pass that began it ended it later with this content, and no start since it began hits it
 pub record Fetched (made : Made) (h : History) (fetch : ℕ) (what : Fetching) (kind body : List ℕ) : Type 0 where
   pub pass : ℕ
   pub began : ℕ
@@ -73,7 +73,8 @@ pub record IsOfOneFetch (made : Made) (h : History) (target : Target) (fetch : �
 
 -- the entry begins this fetch at its own position, for the key and the collection of the target, from the endpoints of
 -- the effective sources; it is then the last of those that are open; and nothing is kept under the key
-pub record BeginsItsFetch (made : Made) (h : History) (entry : Entry) (target : Target) (fetch : ℕ) (plan : List Endpoint) : Type 0 where
+pub record BeginsItsFetch (made : Made) (h : History) (entry : Entry) (target : Target) (fetch : ℕ)
+    (plan : List Endpoint) : Type 0 where
   pub what : Fetching
   pub key : what.key ≡ key_at (index_after made h) target
   pub ccid : what.ccid ≡ ccid_at (index_after made h) target

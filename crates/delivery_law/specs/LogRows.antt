@@ -26,8 +26,8 @@ abbrev pub was_kept : Reply → Bool
 was_kept (reply.Hit delivery fetch kind body) = true
 was_kept _ = false
 
--- the row is that of one delivery: it was admitted at the position that the row has, and the same pass finished it later,
--- at the row's own position, and was told this number; the row says what the request and these two calls said
+-- the row is that of one delivery: it was admitted at the position that the row names, and the same pass finished it
+-- later, at the row's own position, and was told this number; the row says what the request and these two calls said
 pub record IsOfOneDelivery (made : Made) (h : History) (number : ℕ) (one : Recorded) : Type 0 where
   pub pass : ℕ
   pub in_order : one.admitted < one.at

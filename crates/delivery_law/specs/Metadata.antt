@@ -1,11 +1,11 @@
 -- Refreshes of the metadata by their positions: where each began and was installed, and what has hit it since.
-use Rattle.std.specs.Prelude.{◌≡◌, ℕ, ◌<◌, Bool, true, false, All, Some}
+use Rattle.std.specs.Prelude.{◌≡◌, ℕ, ◌<◌, ◌≤◌, Bool, true, false, All, Some}
 use Rattle.cdni_base.specs.declared.rule.Rule.{Rule}
 use Rattle.cdni_base.specs.declared.rule.Rule.TheVariants as rule
 use Rattle.metadata_objects.specs.Tree.{TreeData}
-use Rattle.trigger_command.specs.Selection.{hits_metadata}
+use Rattle.trigger_command.specs.Selection.{HitsMetadata}
 use Rattle.history.specs.After.{begun_refresh}
-use Rattle.history.specs.Event.{Event, History, RefreshEnd}
+use Rattle.history.specs.Event.{Entry, Event, History, RefreshEnd}
 use Rattle.history.specs.History.{AnsweredAt, world_of}
 use Rattle.history.specs.Laws.{IsOpen}
 use Rattle.history.specs.World.{Installed, Made}
@@ -40,18 +40,21 @@ pub record RefreshInstalled (made : Made) (h : History) (at pass refresh : ℕ) 
   pub answered : AnsweredAt made h at (pass, RefreshEnd refresh (Some tree) moment) (reply.Installed generation)
   pub was_open : IsOpen refresh pass (world_of made answered.before).delivering.refreshes
 
--- this metadata was installed by the pass that began its refresh at the position that it has
+-- this metadata was installed by the pass that began its refresh, at the position that it has, and none was installed
+-- later
 pub record WasInstalled (made : Made) (h : History) (installed : Installed) : Type 0 where
   pub pass : ℕ
   pub ended : ℕ
   pub in_order : installed.at < ended
   pub begun : RefreshBegan made h installed.at pass installed.refresh
   pub brought : RefreshInstalled made h ended pass installed.refresh installed.tree
+  pub last : (at : ℕ) (entry : Entry) (generation : ℕ) → AnsweredAt made h at entry (reply.Installed generation)
+      → at ≤ ended
 
 -- no start after this position hits one of these documents
 abbrev pub NoStartHitsMetadata : Made → History → ℕ → TreeData → Type 0
 NoStartHitsMetadata made h at tree = All (λ start. at < start.at
-    → All (λ resource. hits_metadata start.selection resource ≡ false) tree.resources) (world_of made h).delivering.starts
+    → All (λ resource. HitsMetadata start.selection resource → ⊥) tree.resources) (world_of made h).delivering.starts
 
 -- metadata is installed, and no start since its refresh began hits one of its documents
 pub record HasUnhitMetadata (made : Made) (h : History) : Type 0 where

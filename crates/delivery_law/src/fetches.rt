@@ -20,8 +20,8 @@ pub fn a_hit_gives_what_one_fetch_brought()
         → IsOfOneFetch made h asked.target fetch kind body }
 {}
 
-/// A delivery that waits for a fetch begins it at its own step, with the key and the collection of the request, from the
-/// endpoints of the effective sources, and nothing of its key is kept.
+/// A delivery that waits for a fetch begins it at its own step, with the key and the collection of the request, from
+/// the endpoints of the effective sources, and nothing of its key is kept.
 pub fn a_miss_begins_its_own_fetch()
     ensures { (made : Made) (h : History) (pass : ℕ) (asked : Asked) (place : Place)
         (moment delivery fetch : ℕ) (plan : List Endpoint)

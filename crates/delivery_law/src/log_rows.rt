@@ -8,7 +8,7 @@ ghost use Rattle.history.specs.History.{AnsweredAt, world_of};
 ghost use Rattle.history.specs.World.{Made, Recorded};
 ghost use Rattle.history.specs.declared.reply.Reply.TheVariants as reply;
 
-/// Each row is of one delivery, which one pass admitted and later finished, and says what it was asked and told of it; no
+/// Each row is of one delivery, which one pass admitted and later finished, and says what was asked and told of it; no
 /// two rows are of one delivery; and each delivery that was finished has its row, with the status, the bytes and the
 /// moment that were told.
 pub fn each_row_belongs_to_one_finish_and_one_admit()

@@ -27,7 +27,7 @@ use Rattle.history.specs.Steps.{first_hit, index_of, invalid_of}
 use Rattle.history.specs.World.{Begun, Delivering, Installed, Made, Start, World, is_open}
 use Rattle.history.specs.declared.reply.Reply.{Reply}
 use Rattle.history.specs.declared.reply.Reply.TheVariants as reply
-use Rattle.delivery_law.specs.Metadata.{HasUnhitMetadata, RefreshBegan, WasInstalled, is_read_from_metadata, uses_metadata}
+use Rattle.delivery_law.specs.Metadata.{HasUnhitMetadata, RefreshBegan, WasInstalled, is_read_from_metadata, refresh_moment, uses_metadata}
 use Rattle.delivery_law.proofs.Lists.{found_any, found_is, no_any, none_found}
 use Rattle.delivery_law.proofs.Places.{answered_push, from_right, length_push, longer, within}
 
@@ -39,15 +39,15 @@ refreshes_are w e = refl
 
 module _ (w : World) (P : Begun ℕ → Type 0) (old : All P w.delivering.refreshes) where
   abbrev Passes : Entry → Reply → Type 0
-  Passes e r = ((refresh moment : ℕ) → begun_refresh r ≡ Some refresh → P (record { number = refresh; pass = e.0; at = position w; what = moment })) → All P (refreshes_after w e r)
+  Passes e r = ((refresh moment : ℕ) → begun_refresh r ≡ Some refresh → refresh_moment e.1 ≡ Some moment → P (record { number = refresh; pass = e.0; at = position w; what = moment })) → All P (refreshes_after w e r)
 
   refreshes_pass : (e : Entry) → Passes e (reply_in w e)
   refreshes_pass (pass, RefreshBegin moment) = begin_cases w pass (Passes (pass, RefreshBegin moment)) moment
-      (λ n new. old) (λ n new. old) (λ new. All-push P w.delivering.refreshes _ old (new (w.counts.refreshed + 1) moment refl))
+      (λ n new. old) (λ n new. old) (λ new. All-push P w.delivering.refreshes _ old (new (w.counts.refreshed + 1) moment refl refl))
   refreshes_pass (pass, RefreshEnd refresh tree moment) = λ new. All-filter _ P w.delivering.refreshes old
   refreshes_pass (pass, Advance id moment) = advance_cases w pass (Passes (pass, Advance id moment))
       (λ n new. old) (λ status new. old) (λ by new. old) (λ n new. old) (λ new. old)
-      (λ new. All-push P w.delivering.refreshes _ old (new (w.counts.refreshed + 1) moment refl)) (λ n new. old) (λ target new. old) id moment (λ new. old)
+      (λ new. All-push P w.delivering.refreshes _ old (new (w.counts.refreshed + 1) moment refl refl)) (λ n new. old) (λ target new. old) id moment (λ new. old)
   refreshes_pass (pass, Admit asked place moment) = λ new. old
   refreshes_pass (pass, FetchEnd fetch outcome moment) = λ new. old
   refreshes_pass (pass, Finish delivery status total entity moment) = λ new. old
@@ -61,7 +61,7 @@ module _ (w : World) (P : Begun ℕ → Type 0) (old : All P w.delivering.refres
   refreshes_pass (pass, ListLogs) = λ new. old
   refreshes_pass (pass, DropLog number) = λ new. old
 
-  each_refresh : (e : Entry) → ((refresh moment : ℕ) → begun_refresh (reply_in w e) ≡ Some refresh → P (record { number = refresh; pass = e.0; at = position w; what = moment })) → All P (after w e).delivering.refreshes
+  each_refresh : (e : Entry) → ((refresh moment : ℕ) → begun_refresh (reply_in w e) ≡ Some refresh → refresh_moment e.1 ≡ Some moment → P (record { number = refresh; pass = e.0; at = position w; what = moment })) → All P (after w e).delivering.refreshes
   each_refresh e new = subst (All P) (sym (refreshes_are w e)) (refreshes_pass e new)
 
 -- ---- the installed metadata
@@ -140,7 +140,7 @@ module _ (w : World) (Q : Installed → Type 0) where
 -- ---- over histories
 
 abbrev HasBegun : Made → History → Begun ℕ → Type 0
-HasBegun made h f = RefreshBegan made h f.at f.pass f.number
+HasBegun made h f = RefreshBegan made h f.at f.pass f.number f.what
 
 record MetadataLaw (made : Made) (h : History) : Type 0 where
   entries : (world_of made h).entries ≡ length h
@@ -154,8 +154,8 @@ module _ (made : Made) (h : History) (e : Entry) where
   abbrev h' : History
   h' = h ++ e ∷ []
 
-  began_longer : {at pass refresh : ℕ} → RefreshBegan made h at pass refresh → RefreshBegan made h' at pass refresh
-  began_longer b = record { event = b.event; answer = b.answer; answered = longer e b.answered; number = b.number }
+  began_longer : {at pass refresh moment : ℕ} → RefreshBegan made h at pass refresh moment → RefreshBegan made h' at pass refresh moment
+  began_longer b = record { event = b.event; answer = b.answer; answered = longer e b.answered; number = b.number; then = b.then }
 
   stays : (i : Installed) → WasInstalled made h i → installation (reply_to made h e) ≡ None → WasInstalled made h' i
   stays i was none = record {
@@ -170,12 +170,13 @@ module _ (made : Made) (h : History) (e : Entry) where
     brought = record { moment = was.brought.moment; generation = was.brought.generation; answered = longer e was.brought.answered; was_open = was.brought.was_open };
   }
 
-  begins : (law : MetadataLaw made h) (refresh moment : ℕ) → begun_refresh (reply_to made h e) ≡ Some refresh → RefreshBegan made h' (position w) e.0 refresh
-  begins law refresh moment number = record {
+  begins : (law : MetadataLaw made h) (refresh moment : ℕ) → begun_refresh (reply_to made h e) ≡ Some refresh → refresh_moment e.1 ≡ Some moment → RefreshBegan made h' (position w) e.0 refresh moment
+  begins law refresh moment number then = record {
     event = e.1;
     answer = reply_to made h e;
     answered = record { before = h; since = []; whole = refl; place = ap (λ n. n + 1) law.entries; answered = refl };
     number = number;
+    then = then;
   }
 
   installed : (law : MetadataLaw made h) (i : Installed) → InstalledBy w e (reply_to made h e) i → WasInstalled made h' i
@@ -188,7 +189,7 @@ module _ (made : Made) (h : History) (e : Entry) where
         ended = length h + 1;
         in_order = omega (arith, within found.0.answered);
         last = λ at entry generation answered. let low = within answered in let long = length_push h e in omega (arith, low, long);
-        begun = began_longer (subst (λ n. RefreshBegan made h b.at e.0 n) (eqb-true b.number by.refresh same.0) (subst (λ p. RefreshBegan made h b.at p b.number) (eqb-true b.pass e.0 same.1) found.0));
+        begun = began_longer (subst (λ n. RefreshBegan made h b.at e.0 n b.what) (eqb-true b.number by.refresh same.0) (subst (λ p. RefreshBegan made h b.at p b.number b.what) (eqb-true b.pass e.0 same.1) found.0));
         brought = record {
           moment = by.moment;
           generation = by.generation;

@@ -1,0 +1,4 @@
+pub mod Fetches
+pub mod Metadata
+pub mod LogRows
+pub mod Starts

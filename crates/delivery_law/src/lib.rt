@@ -1,0 +1,8 @@
+//! The laws that a delivery obeys, over every history of calls, by positions. Each function does nothing: its contract
+//! is the law.
+#![tactic(auto)]
+
+pub mod fetches;
+pub mod log_rows;
+pub mod metadata;
+pub mod starts;

@@ -1,7 +1,7 @@
 //! Scripts with the answers and the status that they must have: its name, its text, its answers, and its status's
 //! number.
 
-pub const SCRIPTS: [(&str, &str, &str, u8); 109] = [
+pub const SCRIPTS: [(&str, &str, &str, u8); 126] = [
     ("an empty script", "", "", 0),
     (
         "no host",
@@ -591,4 +591,71 @@ pub const SCRIPTS: [(&str, &str, &str, u8); 109] = [
         "due 1\nfailed\nnot-open 1\ndenied 1 503 no-metadata\n",
         0,
     ),
+    (
+        "deliveries and rows are limited together, and log files",
+        "limits 1000 2 1 1 60000 100\n0 1000 refresh\n0 1000 meta 1 http://up.example/i {\"hosts\":[{\"host\":\"v.example\",\"host-metadata\":{\"metadata\":[{\"generic-metadata-type\":\"MI.SourceMetadata\",\"generic-metadata-value\":{\"sources\":[{\"endpoints\":[\"o.example\"],\"protocol\":\"http/1.1\"}]}}]}}]}\n0 2000 get GET http/1.1 192.0.2.7 as64496 us http://v.example/a\n0 2000 get GET http/1.1 192.0.2.7 as64496 us http://v.example/b\n0 2000 get GET http/1.1 192.0.2.7 as64496 us http://v.example/a\n0 2000 finish 1 200 0 0\n0 2000 get GET http/1.1 192.0.2.7 as64496 us http://v.example/a\n0 2000 cut\n0 2000 get GET http/1.1 192.0.2.7 as64496 us http://v.example/a\n0 2000 finish 2 200 0 0\n0 2000 cut\n0 2000 droplog 1\n0 2000 cut\n",
+        "due 1\ninstalled 1\nmiss 1 1 o.example:80\nmiss 2 2 o.example:80\nfull 2\nlogged 1\nfull 2\nfile 1\nmiss 3 3 o.example:80\nlogged 2\nfull 1\ndropped\nfile 2\n",
+        0,
+    ),
+    (
+        "a delivery is finished once, by its pass alone",
+        "0 1000 refresh\n0 1000 meta 1 http://up.example/i {\"hosts\":[{\"host\":\"v.example\",\"host-metadata\":{\"metadata\":[{\"generic-metadata-type\":\"MI.SourceMetadata\",\"generic-metadata-value\":{\"sources\":[{\"endpoints\":[\"o.example\"],\"protocol\":\"http/1.1\"}]}}]}}]}\n0 2000 get GET http/1.1 192.0.2.7 as64496 us http://v.example/a\n1 3000 finish 1 200 0 0\n0 3000 finish 1 200 0 0\n0 3000 finish 1 200 0 0\n0 3001 lost 7\n",
+        "due 1\ninstalled 1\nmiss 1 1 o.example:80\nnot-open 1\nlogged 1\nnot-open 1\nnot-open 7\n",
+        0,
+    ),
+    (
+        "a log file is cut, read and listed",
+        "0 1000 refresh\n0 1000 meta 1 http://up.example/i {\"hosts\":[{\"host\":\"v.example\",\"host-metadata\":{\"metadata\":[{\"generic-metadata-type\":\"MI.SourceMetadata\",\"generic-metadata-value\":{\"sources\":[{\"endpoints\":[\"o.example\"],\"protocol\":\"http/1.1\"}]}}]}}]}\n0 1368751077767 get GET http/1.1 192.0.2.7 as64496 us http://v.example/a\n0 1368751080000 got 1 200 text/plain 30313233343536373839\n0 1368751086825 finish 1 200 134 10\n0 1368751086900 cut\n0 1368751086900 log 1\n0 1368751086900 cut\n0 1368751086900 logs\n",
+        "due 1\ninstalled 1\nmiss 1 1 o.example:80\nended kept\nlogged 1\nfile 1\ntext 458\n#version:\tcdni/1.0\r\n#UUID:\t\"urn:uuid:fe019a37-83b1-54c0-ad63-4eff0481b93a\"\r\n#claimed-origin:\tdcdn.example\r\n#record-type:\tcdni_http_request_v1\r\n#fields:\tdate\ttime\ttime-taken\tc-groupid\tcs-method\tcs-uri\tu-uri\tprotocol\tsc-status\tsc-total-bytes\tsc-entity-bytes\ts-ccid\ts-cached\r\n2013-05-17\t00:38:06.825\t9.058\tas64496\tGET\thttp://v.example/a\thttp://v.example/a\tHTTP/1.1\t200\t134\t10\t-\t0\r\n#SHA256-hash:\t57b0d9445035d8e490ff926fcd7e8566cba7d4290da1fb0019fab5280efaebec\r\n\nnothing-to-cut\nlogs 1\n",
+        0,
+    ),
+    (
+        "three answers open something",
+        "limits 1000 10 1 1 60000 3\n0 1000 refresh\n0 1000 meta 1 http://up.example/i {\"hosts\":[{\"host\":\"v.example\",\"host-metadata\":{\"metadata\":[{\"generic-metadata-type\":\"MI.SourceMetadata\",\"generic-metadata-value\":{\"sources\":[{\"endpoints\":[\"o.example\"],\"protocol\":\"http/1.1\"}]}}]}}]}\n0 2000 get GET http/1.1 192.0.2.7 as64496 us http://v.example/a\n0 2000 get GET http/1.1 192.0.2.7 as64496 us http://v.example/b\n0 2000 get GET http/1.1 192.0.2.7 as64496 us http://v.example/c\n",
+        "due 1\ninstalled 1\nmiss 1 1 o.example:80\nmiss 2 2 o.example:80\nfull 3\n",
+        0,
+    ),
+    (
+        "a denied delivery has a row",
+        "limits 1 3 8 3 1000 4611686018427387904\n0 1 get GET http/1.1 ::ffff:192.0.2.7 - us http://A_b-C.example/%41\n0 1 get POST http/1.1 ::ffff:192.0.2.7 - us http://a_b-C.EXaMPlE:00080//\n0 5 get GET http/1.1 ::ffff:192.0.2.7 - fr http://A_b-C.example/a$b\n0 9 finish 0 403 0 0\n0 14 finish 2 404 18446744073709551615 0\n0 15 refresh\n0 16 refresh\n0 19 get GET http/1.1 ::ffff:192.0.2.7 as0 us http://A_b-C.example:8080/%41?\n0 24 get GET http/1.1 0.0.0.0 as0 us http://A_b-C.example:/free/y/z\n0 24 cut\n",
+        "denied 1 503 no-metadata\ndenied 2 405 method\ndenied 3 503 no-metadata\nnot-open 0\nlogged 1\ndue 1\ndue 2\nfull 3\nfull 3\nfile 1\n",
+        0,
+    ),
+    (
+        "rows at their limit",
+        "limits 3 1 2 1 86400000 4611686018427387904\n0 253402300790001 get GET http/1.1 198.51.100.1 - - http://v.example?x=/?\n0 253402300790002 get HEAD http/1.1 ::ffff:192.0.2.7 as64500 us http://v.example/seg/1.ts\n0 253402300790006 cut\n0 253402300790009 get GET http/1.1 1:2:3:4:5:6:7:: as64500 - https://v.example/seg/1.ts\n0 253402300790013 lost 0\n0 253402300790016 cut\n0 253402300790016 finish 1 206 18446744073709551615 0\n0 253402300790017 cut\n0 253402300790017 refresh\n0 253402300790020 get GET https/1.1 1:2:3:4:5:6:7:: - us https://v.example:\n",
+        "denied 1 503 no-metadata\nfull 1\nnothing-to-cut\nfull 1\nnot-open 0\nnothing-to-cut\nlogged 1\nfile 1\ndue 1\ndenied 2 503 no-metadata\n",
+        0,
+    ),
+    (
+        "no log files",
+        "0 97837 get GET http/1.1 ::1 as4294967295 de http://[2001:DB8::1]/movies/a%2Fb\n0 112428 get GET http/1.1 203.0.113.9 as0 fr http://[2001:dB8::1]/movies/a%2Fb\n0 138527 get GET http/1.1 203.0.113.9 as0 - http://[2001:DB8::1]/seg/2.ts\n0 141806 logs\n0 158307 get POST http/1.1 2001:db8::1 as64500 de http://[2001:DB8::1]:/movies/a%2Fb\n0 166152 finish 3 100 18446744073709551615 10\n0 184855 get GET http/1.1 ::1 as64500 de http://[2001:DB8::1]/a/\n0 195670 get GET http/1.1 203.0.113.9 as4294967295 fr http://[2001:DB8::1]/a/\n0 194126 refresh\n0 212271 finish 1 206 0 3\n",
+        "denied 1 503 no-metadata\ndenied 2 503 no-metadata\ndenied 3 503 no-metadata\nlogs -\ndenied 4 405 method\nlogged 1\ndenied 5 503 no-metadata\ndenied 6 503 no-metadata\ndue 1\nlogged 2\n",
+        0,
+    ),
+    (
+        "log files that are not there",
+        "limits 10 100000 2 64 0 4611686018427387904\n0 19228 droplog 0\n0 29762 get GET http/1.1 255.255.255.255 as64500 fr http://[2001:DB8::1]/q~!$&'()*+,;=:@\n4294967295 38359 log 1\n0 56627 finish 1 403 0 10\n0 76184 refresh\n1 76267 get GET https/1.1 2001:db8::1 as64500 us http://[2001:DB8::1]/q~!$&'()*+,;=:@\n0 89677 droplog 1\n0 95510 get GET http/1.1 1:2:3:4:5:6:7:8 as0 us http://[2001:DB8::1]/\n4294967295 112902 meta 2 http://UP.example/i?x=1|http://up.example/j {\"hosts\":[{\"host\":\"[2001:DB8::1]\",\"host-metadata\":{\"metadata\":[{\"generic-metadata-type\":\"MI.SourceMetadata\",\"generic-metadata-value\":{\"sources\":[{\"endpoints\":[\"O2.example:8080\"],\"protocol\":\"http/1.1\"}]},\"safe-to-redistribute\":true},{\"generic-metadata-type\":\"MI.Cache\",\"generic-metadata-value\":{\"ignore-query-string\":[\"x\"]},\"incomprehensible\":false},{\"generic-metadata-type\":\"MI.Grouping\",\"generic-metadata-value\":{\"ccid\":\"x y\"}}]}}]}\n0 133903 finish 3 200 126 0\n",
+        "unknown 0\ndenied 1 503 no-metadata\nunknown 1\nlogged 1\ndue 1\ndenied 2 503 no-metadata\nunknown 1\ndenied 3 503 no-metadata\nnot-open 2\nlogged 2\n",
+        0,
+    ),
+    ("a status of 99", "0 1 finish 1 99 0 0\n", "", 1),
+    ("a status of 1000", "0 1 finish 1 1000 0 0\n", "", 1),
+    (
+        "a finish without its last field",
+        "0 1 finish 1 200 0\n",
+        "",
+        1,
+    ),
+    (
+        "a finish with one field more",
+        "0 1 finish 1 200 0 0 0\n",
+        "",
+        1,
+    ),
+    ("a cut with a field", "0 1 cut 1\n", "", 1),
+    ("a log without a number", "0 1 log\n", "", 1),
+    ("a log with an empty number", "0 1 log \n", "", 1),
+    ("logs of a number", "0 1 logs 1\n", "", 1),
+    ("a droplog of a word", "0 1 droplog x\n", "", 1),
 ];

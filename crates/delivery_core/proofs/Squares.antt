@@ -13,7 +13,7 @@ use Rattle.targets.specs.declared.target.Target.{Target}
 use Rattle.upstream_gate.specs.declared.outcome.Outcome.{Outcome}
 use Rattle.cdni_log.specs.declared.row.Row.{Row}
 use Rattle.history.specs.After.{admission, after, after_reply, closed, installed_by, new_rows, opened_by, position, recorded, row_of}
-use Rattle.history.specs.Event.{Event, Admit, FetchEnd, Finish, RefreshBegin, RefreshEnd}
+use Rattle.history.specs.Event.{Event, Admit, FetchEnd, Finish, RefreshBegin, RefreshEnd, Cut, DropLog, LogFile, ListLogs}
 use Rattle.history.specs.Kept.{gained, is_hit_since, kept_of, used, with_gained}
 use Rattle.history.specs.Metadata.{forbidden, key_by, objects_of}
 use Rattle.history.specs.Reply as replies
@@ -366,3 +366,40 @@ module _ (w : World) (plain : HasNoTriggers w) (pass refresh : ℕ) (tree : Opti
   pub refresh_end_plain : HasNoTriggers (after w (pass, RefreshEnd refresh tree moment))
   unfolding after after_reply
   refresh_end_plain = plain
+
+-- ---- log files
+
+module _ (w : World) (pass moment : ℕ) where
+  -- a log file has all rows
+  pub cut_leaves : (number : ℕ) → edge_of (after_reply w (pass, Cut moment) (reply.File number)) ≡ record (edge_of w) { unfiled = [] }
+  unfolding after_reply
+  cut_leaves number = refl
+
+  pub uncut_leaves : edge_of (after_reply w (pass, Cut moment) reply.NothingToCut) ≡ edge_of w
+  unfolding after_reply
+  uncut_leaves = ap (λ rows. record (edge_of w) { unfiled = rows }) (same_rows w)
+
+  pub full_cut_leaves : (count : ℕ) → edge_of (after_reply w (pass, Cut moment) (reply.Full count)) ≡ edge_of w
+  unfolding after_reply
+  full_cut_leaves count = ap (λ rows. record (edge_of w) { unfiled = rows }) (same_rows w)
+
+module _ (w : World) (pass number : ℕ) where
+  pub dropped_leaves : edge_of (after_reply w (pass, DropLog number) reply.Dropped) ≡ edge_of w
+  unfolding after_reply
+  dropped_leaves = ap (λ rows. record (edge_of w) { unfiled = rows }) (same_rows w)
+
+  pub undropped_leaves : edge_of (after_reply w (pass, DropLog number) (reply.Unknown number)) ≡ edge_of w
+  unfolding after_reply
+  undropped_leaves = ap (λ rows. record (edge_of w) { unfiled = rows }) (same_rows w)
+
+  pub log_leaves : (text : List ℕ) → edge_of (after_reply w (pass, LogFile number) (reply.LogText text)) ≡ edge_of w
+  unfolding after_reply
+  log_leaves text = ap (λ rows. record (edge_of w) { unfiled = rows }) (same_rows w)
+
+  pub no_log_leaves : edge_of (after_reply w (pass, LogFile number) (reply.Unknown number)) ≡ edge_of w
+  unfolding after_reply
+  no_log_leaves = ap (λ rows. record (edge_of w) { unfiled = rows }) (same_rows w)
+
+pub list_leaves : (w : World) (pass : ℕ) (numbers : List ℕ) → edge_of (after_reply w (pass, ListLogs) (reply.Numbers numbers)) ≡ edge_of w
+unfolding after_reply
+list_leaves w pass numbers = ap (λ rows. record (edge_of w) { unfiled = rows }) (same_rows w)

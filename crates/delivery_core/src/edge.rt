@@ -14,6 +14,7 @@ use crate::records::{Ending, Records};
 use crate::results::{Admitted, Began, RefreshEnded};
 use crate::shelf::Shelf;
 use cdni_base::{Asked, EndpointList, Key, Limits, Moment, Protocol, Rule, Target, Text};
+use cdni_log::RowList;
 use history::{Admission, Fetching};
 use inheritance::Effective;
 use location_acl::Place;
@@ -303,6 +304,20 @@ impl Edge {
             moment,
         };
         self.records.finish(pass, delivery, ending)
+    }
+
+    /// The rows that no log file has, in the order of their deliveries' ends.
+    pub fn unfiled(&self) -> &RowList
+        ensures { result.now.items ≡ self.now.unfiled }
+    {
+        self.records.unfiled()
+    }
+
+    /// A log file has all rows now.
+    pub fn rows_filed(&mut self)
+        ensures { self.new ≡ record self.old { unfiled = [] } }
+    {
+        self.records.file_rows();
     }
 
     /// The limits with which it was made.

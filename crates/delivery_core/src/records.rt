@@ -7,6 +7,7 @@ ghost use Rattle.delivery_core.specs.Records.{begun, finish_reply, finish_after,
 
 use crate::open::{Named, Open};
 use cdni_base::Moment;
+use cdni_log::RowList;
 use history::Admission;
 use listing::ReservedList;
 use rows::Row;
@@ -33,7 +34,7 @@ pub(crate) struct Ending {
 pub(crate) struct Records {
     deliveries: Row<Open<Admission>>,
     delivered: u64,
-    unfiled: ReservedList<cdni_log::Row>,
+    unfiled: RowList,
     logged: u64,
 }
 
@@ -77,6 +78,20 @@ impl Records {
     {
         let _delivered = self.delivered;
         self.deliveries.len() as u64 + self.unfiled.len() as u64
+    }
+
+    /// The rows that no log file has, in order.
+    pub fn unfiled(&self) -> &RowList
+        ensures { result.now.items ≡ self.now.unfiled }
+    {
+        &self.unfiled
+    }
+
+    /// A log file has all rows.
+    pub fn file_rows(&mut self)
+        ensures { self.new ≡ record self.old { unfiled = [] } }
+    {
+        self.unfiled.clear();
     }
 
     /// Reserves places, so that a delivery can begin without memory.

@@ -12,7 +12,7 @@ use crate::lines::Lines;
 use cdni_base::Limits;
 use edge_base::{Sink, Source, write_counted};
 use node_core::Node;
-use replay_script::{Stepped, answer_one};
+use replay_script::{Stepped, answer_one, scripted_node};
 use std::alloc::Global;
 
 /// How a replay ended.
@@ -45,7 +45,7 @@ pub(crate) fn replay<S: Source, K: Sink>(alloc: Global, input: &mut S, output: &
     let Ok(mut lines) = Lines::new(alloc) else {
         return ReplayEnd::Memory;
     };
-    let Ok(mut node) = Node::new(alloc, Limits::standard()) else {
+    let Ok(mut node) = scripted_node(alloc, &Limits::standard()) else {
         return ReplayEnd::Memory;
     };
     answer_lines(alloc, &mut lines, &mut node, input, output)

@@ -1,7 +1,7 @@
 -- A call as the definitions see it: with metadata as plain data.
 use Rattle.std.specs.Option.{option_map}
 use Rattle.metadata_objects.specs.Tree.{tree_view}
-use Rattle.history.specs.Event.{Event, Admit, FetchEnd, Finish, RefreshBegin, RefreshEnd}
+use Rattle.history.specs.Event.{Event, Admit, FetchEnd, Finish, RefreshBegin, RefreshEnd, Cut, LogFile, ListLogs, DropLog}
 use Rattle.node_core.specs.declared.call.Call.{Call}
 use Rattle.node_core.specs.declared.call.Call.TheVariants as call
 
@@ -11,3 +11,7 @@ event_of (call.RefreshEnd refresh tree moment) = RefreshEnd refresh (option_map 
 event_of (call.Admit asked place moment) = Admit asked place moment
 event_of (call.FetchEnd fetch outcome moment) = FetchEnd fetch outcome moment
 event_of (call.Finish delivery status total entity moment) = Finish delivery status total entity moment
+event_of (call.Cut moment) = Cut moment
+event_of (call.LogFile number) = LogFile number
+event_of call.ListLogs = ListLogs
+event_of (call.DropLog number) = DropLog number

@@ -1,2 +1,4 @@
 pub mod Call
 pub mod Node
+pub mod Logs
+pub mod Law

@@ -5,7 +5,7 @@ use location_acl::Place;
 use metadata_objects::Tree;
 use upstream_gate::Outcome;
 
-/// A call of those that a node takes in so far: of deliveries and their ends, fetches and metadata.
+/// A call of those that a node takes in so far: of deliveries, fetches, metadata and log files.
 #[derive(Drop)]
 pub enum Call {
     /// A refresh of the metadata would begin.
@@ -29,6 +29,20 @@ pub enum Call {
         fetch: u64,
         outcome: Outcome,
         moment: Moment,
+    },
+    /// The unfiled rows would be cut into a log file.
+    Cut {
+        moment: Moment,
+    },
+    /// The upstream CDN reads a log file.
+    LogFile {
+        number: u64,
+    },
+    /// The upstream CDN lists the log files.
+    ListLogs,
+    /// The upstream CDN drops a log file.
+    DropLog {
+        number: u64,
     },
     /// A delivery was answered with this status; so many bytes were sent, and so many of them of the body.
     Finish {

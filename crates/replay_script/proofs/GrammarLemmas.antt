@@ -31,12 +31,12 @@ use Rattle.location_acl.specs.declared.footprint.Place.{Place}
 use Rattle.metadata_objects.specs.Host.{host_index_of_text}
 use Rattle.hex.specs.Hex.{decode_of}
 use Rattle.cdni_base.specs.Limits.{Bounds, AreInRange}
-use Rattle.history.specs.Event.{Event, Admit, FetchEnd, Finish, RefreshEnd}
+use Rattle.history.specs.Event.{Event, Admit, FetchEnd, Finish, RefreshEnd, Cut, DropLog, ListLogs, LogFile}
 use Rattle.upstream_gate.specs.Got.{GotParts, IsGot, is_got_status}
 use Rattle.upstream_gate.specs.declared.got.TheConstants.{BODY_MAX}
 use Rattle.upstream_gate.specs.declared.outcome.Outcome.TheVariants as outcome
 use Rattle.replay_script.specs.Call.{Noted, Said, Sets, Calls}
-use Rattle.replay_script.specs.Grammar.{number_below, number_between, bounds_of, limits_of, url_target, key_of_url, keys_of_urls, keys_of, is_method, protocol_of, place_at, asked_of, get_of, refreshed, meta_of, plain, is_kind, kind_of, body_of, content_of, got_of, lost_of, metafail_of, finish_of, worded, call_of, scripted_of, line_of, NoSpace, IsNumber, IsProtocol, IsPlace, IsAsked, AreKeys, IsKind, IsBody, SaysMeta, SaysGet, SaysGot, SaysLost, SaysMetafail, SaysFinish, SaysCall, SaysScripted, SaysLimits, Says, ReadsAs}
+use Rattle.replay_script.specs.Grammar.{number_below, number_between, bounds_of, limits_of, url_target, key_of_url, keys_of_urls, keys_of, is_method, protocol_of, place_at, asked_of, get_of, refreshed, meta_of, plain, is_kind, kind_of, body_of, content_of, got_of, lost_of, metafail_of, finish_of, log_of, droplog_of, of_record, bare_of, plainly_or, worded, call_of, scripted_of, line_of, NoSpace, IsNumber, IsProtocol, IsPlace, IsAsked, AreKeys, IsKind, IsBody, SaysMeta, SaysGet, SaysGot, SaysLost, SaysMetafail, SaysFinish, SaysLog, SaysDropLog, SaysOfRecord, SaysBare, SaysCall, SaysScripted, SaysLimits, Says, ReadsAs}
 use Rattle.replay_script.specs.declared.grammar.TheConstants.{SPACE, BAR}
 
 abbrev pub parts_of : ℕ → List ℕ → List (List ℕ)
@@ -575,7 +575,7 @@ finish_says moment text word behind said cut same is =
       words = (behind, first.0, first.1, (delivery.0.1, d.0, d.1, (status.0.1, s.0, s.1, (total.0.1, t.0, t.1, refl))));
       numbered = number_says delivery.0.0 number.0 number.1;
       coded = coded.0;
-      ranged = coded.1;
+      ranged = (coded.1, coded.2);
       whole = number_says total.0.0 sent.0 sent.1;
       part = number_says total.0.1 content.0 content.1;
       call = said_plainly event.0 (Finish number.0 code.0 sent.0 content.0 moment) said event.2 content.2;
@@ -601,11 +601,72 @@ says_finish moment text said is =
           ∙ ap Some (sym is.call),
     )
 
+log_says : (text word behind : List ℕ) (said : Noted) → parts_at SPACE text ≡ Some (word, behind) → bytes_eq word (codes "log") ≡ true → option_map plain (log_of behind) ≡ Some said → SaysLog text said
+log_says text word behind said cut same is =
+    let first = first_is text word behind (codes "log") cut same in
+    let event = found_map plain (log_of behind) said is in
+    let file = found_map LogFile (number_of behind) event.0 event.1 in
+    record {
+      number = behind;
+      file = file.0;
+      words = (behind, first.0, first.1, refl);
+      numbered = number_says behind file.0 file.1;
+      call = said_plainly event.0 (LogFile file.0) said event.2 file.2;
+    }
+
+says_log : (text : List ℕ) (said : Noted) → SaysLog text said → (behind : List ℕ) × (text ≡ codes "log" ++ SPACE ∷ behind) × (option_map plain (log_of behind) ≡ Some said)
+says_log text said is =
+    let first = is.words in
+    (first.0, first.1, ap (λ t. option_map plain (log_of t)) first.3 ∙ ap (λ n. option_map plain (option_map LogFile n)) (says_number is.number is.file is.numbered) ∙ ap Some (sym is.call))
+
+droplog_says : (text word behind : List ℕ) (said : Noted) → parts_at SPACE text ≡ Some (word, behind) → bytes_eq word (codes "droplog") ≡ true → option_map plain (droplog_of behind) ≡ Some said → SaysDropLog text said
+droplog_says text word behind said cut same is =
+    let first = first_is text word behind (codes "droplog") cut same in
+    let event = found_map plain (droplog_of behind) said is in
+    let file = found_map DropLog (number_of behind) event.0 event.1 in
+    record {
+      number = behind;
+      file = file.0;
+      words = (behind, first.0, first.1, refl);
+      numbered = number_says behind file.0 file.1;
+      call = said_plainly event.0 (DropLog file.0) said event.2 file.2;
+    }
+
+says_droplog : (text : List ℕ) (said : Noted) → SaysDropLog text said → (behind : List ℕ) × (text ≡ codes "droplog" ++ SPACE ∷ behind) × (option_map plain (droplog_of behind) ≡ Some said)
+says_droplog text said is =
+    let first = is.words in
+    (first.0, first.1, ap (λ t. option_map plain (droplog_of t)) first.3 ∙ ap (λ n. option_map plain (option_map DropLog n)) (says_number is.number is.file is.numbered) ∙ ap Some (sym is.call))
+
+of_record_says : (moment : ℕ) (text word behind : List ℕ) (said : Noted) → parts_at SPACE text ≡ Some (word, behind) → option_map plain (of_record moment word behind) ≡ Some said → SaysOfRecord moment text said
+unfolding of_record
+of_record_says moment text word behind said cut is = elim (cases_Bool (bytes_eq word (codes "finish"))) [
+  | inl finish ↦ inl (finish_says moment text word behind said cut finish (ap (option_map plain) (sym (cond-true _ _ _ finish)) ∙ is))
+  | inr no_finish ↦ inr (elim (cases_Bool (bytes_eq word (codes "log"))) [
+    | inl log ↦ inl (log_says text word behind said cut log (ap (option_map plain) (sym (cond-true _ _ _ log) ∙ sym (cond-false _ _ _ no_finish)) ∙ is))
+    | inr no_log ↦
+        let event = found_map plain _ said (ap (option_map plain) (sym (cond-false _ _ _ no_log) ∙ sym (cond-false _ _ _ no_finish)) ∙ is) in
+        let last = found_if (bytes_eq word (codes "droplog")) (droplog_of behind) event.0 event.1 in
+        inr (droplog_says text word behind said cut last.0 (ap (option_map plain) last.1 ∙ ap Some event.2))
+  ])
+]
+
 -- ---- calls and lines
+
+bare_says : (moment : ℕ) (text : List ℕ) (event : Event) → bare_of moment text ≡ Some event → SaysBare moment text (plain event)
+unfolding bare_of
+bare_says moment text event is = elim (cases_Bool (bytes_eq text (codes "refresh"))) [
+  | inl refresh ↦ inl ((bytes_eq-Decides text (codes "refresh")).0 refresh, ap plain (sym (same_some (sym (cond-true _ _ _ refresh) ∙ is))))
+  | inr no_refresh ↦ inr (elim (cases_Bool (bytes_eq text (codes "cut"))) [
+    | inl cut ↦ inl ((bytes_eq-Decides text (codes "cut")).0 cut, ap plain (sym (same_some (sym (cond-true _ _ _ cut) ∙ sym (cond-false _ _ _ no_refresh) ∙ is))))
+    | inr no_cut ↦
+        let last = found_if (bytes_eq text (codes "logs")) (Some ListLogs) event (sym (cond-false _ _ _ no_cut) ∙ sym (cond-false _ _ _ no_refresh) ∙ is) in
+        inr ((bytes_eq-Decides text (codes "logs")).0 last.0, ap plain (sym (same_some last.1)))
+  ])
+]
 
 -- what a word that is none of those before stands for
 worded_says : (moment : ℕ) (text word behind : List ℕ) (said : Noted) → parts_at SPACE text ≡ Some (word, behind) → worded moment (word, behind) ≡ Some said
-    → SaysMeta moment text said ⊎ (SaysGet moment text said ⊎ (SaysGot moment text said ⊎ (SaysLost moment text said ⊎ (SaysMetafail moment text said ⊎ SaysFinish moment text said))))
+    → SaysMeta moment text said ⊎ (SaysGet moment text said ⊎ (SaysGot moment text said ⊎ (SaysLost moment text said ⊎ (SaysMetafail moment text said ⊎ SaysOfRecord moment text said))))
 worded_says moment text word behind said cut is = elim (cases_Bool (bytes_eq word (codes "meta"))) [
   | inl meta ↦ inl (meta_says moment text word behind said cut meta (sym (cond-true _ _ _ meta) ∙ is))
   | inr no_meta ↦ inr (elim (cases_Bool (bytes_eq word (codes "get"))) [
@@ -619,36 +680,40 @@ worded_says moment text word behind said cut is = elim (cases_Bool (bytes_eq wor
             inr (elim (cases_Bool (bytes_eq word (codes "metafail"))) [
               | inl metafail ↦ inl (metafail_says moment text word behind said cut metafail (sym (cond-true _ _ _ metafail) ∙ rest))
               | inr no_metafail ↦
-                  let last = found_if (bytes_eq word (codes "finish")) (option_map plain (finish_of moment behind)) said (sym (cond-false _ _ _ no_metafail) ∙ rest) in
-                  inr (finish_says moment text word behind said cut last.0 last.1)
+                  inr (of_record_says moment text word behind said cut (sym (cond-false _ _ _ no_metafail) ∙ rest))
             ])
       ])
     ])
   ])
 ]
 
+call_says_by : (moment : ℕ) (text : List ℕ) (said : Noted) (found : Option Event) → bare_of moment text ≡ found → plainly_or found (parts_at SPACE text >>= worded moment) ≡ Some said → SaysCall moment text said
+call_says_by moment text said (Some event) is same = inl (subst (SaysBare moment text) (same_some same) (bare_says moment text event is))
+call_says_by moment text said None is same =
+    let word = found_first (parts_at SPACE text) (worded moment) said same in
+    inr (worded_says moment text word.0.0 word.0.1 said word.1 word.2)
+
 call_says : (moment : ℕ) (text : List ℕ) (said : Noted) → call_of moment text ≡ Some said → SaysCall moment text said
 unfolding call_of
-call_says moment text said is = elim (cases_Bool (bytes_eq text (codes "refresh"))) [
-  | inl refresh ↦ inl ((bytes_eq-Decides text (codes "refresh")).0 refresh, sym (same_some (sym (cond-true _ _ _ refresh) ∙ is)))
-  | inr other ↦
-      let word = found_first (parts_at SPACE text) (worded moment) said (sym (cond-false _ _ _ other) ∙ is) in
-      inr (worded_says moment text word.0.0 word.0.1 said word.1 word.2)
-]
+call_says moment text said is = call_says_by moment text said (bare_of moment text) refl is
 
 says_word_call : (moment : ℕ) (text word behind : List ℕ) (said : Noted) → NoSpace word → call_of moment (word ++ SPACE ∷ behind) ≡ (parts_at SPACE (word ++ SPACE ∷ behind) >>= worded moment) → text ≡ word ++ SPACE ∷ behind → worded moment (word, behind) ≡ Some said → call_of moment text ≡ Some said
 says_word_call moment text word behind said none is same worded_is =
     ap (call_of moment) same ∙ is ∙ found_then (parts_at SPACE (word ++ SPACE ∷ behind)) (worded moment) (word, behind) _ (begins_cut SPACE word behind none) worded_is
 
 says_call : (moment : ℕ) (text : List ℕ) (said : Noted) → SaysCall moment text said → call_of moment text ≡ Some said
-unfolding call_of
-says_call moment text said (inl is) = ap (call_of moment) is.0 ∙ ap Some (sym is.1)
+unfolding call_of bare_of of_record
+says_call moment text said (inl (inl is)) = ap (call_of moment) is.0 ∙ ap Some (sym is.1)
+says_call moment text said (inl (inr (inl is))) = ap (call_of moment) is.0 ∙ ap Some (sym is.1)
+says_call moment text said (inl (inr (inr is))) = ap (call_of moment) is.0 ∙ ap Some (sym is.1)
 says_call moment text said (inr (inl is)) = let m = says_meta moment text said is in says_word_call moment text (codes "meta") m.0 said refl refl m.1 m.2
 says_call moment text said (inr (inr (inl is))) = let m = says_get moment text said is in says_word_call moment text (codes "get") m.0 said refl refl m.1 m.2
 says_call moment text said (inr (inr (inr (inl is)))) = let m = says_got moment text said is in says_word_call moment text (codes "got") m.0 said refl refl m.1 m.2
 says_call moment text said (inr (inr (inr (inr (inl is))))) = let m = says_lost moment text said is in says_word_call moment text (codes "lost") m.0 said refl refl m.1 m.2
 says_call moment text said (inr (inr (inr (inr (inr (inl is)))))) = let m = says_metafail moment text said is in says_word_call moment text (codes "metafail") m.0 said refl refl m.1 m.2
-says_call moment text said (inr (inr (inr (inr (inr (inr is)))))) = let m = says_finish moment text said is in says_word_call moment text (codes "finish") m.0 said refl refl m.1 m.2
+says_call moment text said (inr (inr (inr (inr (inr (inr (inl is))))))) = let m = says_finish moment text said is in says_word_call moment text (codes "finish") m.0 said refl refl m.1 m.2
+says_call moment text said (inr (inr (inr (inr (inr (inr (inr (inl is)))))))) = let m = says_log text said is in says_word_call moment text (codes "log") m.0 said refl refl m.1 m.2
+says_call moment text said (inr (inr (inr (inr (inr (inr (inr (inr is)))))))) = let m = says_droplog text said is in says_word_call moment text (codes "droplog") m.0 said refl refl m.1 m.2
 
 -- ---- the limits
 

@@ -1,5 +1,5 @@
 -- The answer lines of a script.
-use Rattle.std.specs.Prelude.{ℕ, Bool, true, false, List, [], ◌∷◌, ◌++◌, codes, decimal, None, Some}
+use Rattle.std.specs.Prelude.{ℕ, Bool, true, false, List, [], ◌∷◌, ◌++◌, codes, decimal, length, None, Some}
 use Rattle.std.specs.List.{flat_map}
 use Rattle.std.specs.declared.option.Option.{Option}
 use Rattle.cdni_base.specs.Rule.{rule_status, rule_text}
@@ -67,6 +67,19 @@ abbrev pub ended_text : Bool → List ℕ
 ended_text true = codes "ended kept\n"
 ended_text false = codes "ended\n"
 
+-- a comma and a number
+abbrev pub more_word : ℕ → List ℕ
+more_word number = codes "," ++ decimal number
+
+-- numbers joined by commas, `-` where there are none
+abbrev pub numbers_word : List ℕ → List ℕ
+numbers_word [] = codes "-"
+numbers_word (number ∷ numbers) = decimal number ++ flat_map more_word numbers
+
+-- how many bytes the text has, and the text
+abbrev pub log_text : List ℕ → List ℕ
+log_text text = numbered (codes "text") (length text) ++ text ++ LINE_FEED ∷ []
+
 -- the answer of a reply, where this was noted of the call; no line of a script brings the replies that are not named yet
 unfoldable pub answer_line : Reply → Option MetaFault → List ℕ
 answer_line (reply.Denied delivery rule) said =
@@ -86,4 +99,10 @@ answer_line (reply.NotDue next) said = numbered (codes "not-due") next
 answer_line (reply.Installed generation) said = numbered (codes "installed") generation
 answer_line (reply.Older refresh) said = numbered (codes "older") refresh
 answer_line reply.Failed said = failed_line said
+answer_line (reply.File number) said = numbered (codes "file") number
+answer_line reply.NothingToCut said = codes "nothing-to-cut\n"
+answer_line (reply.LogText text) said = log_text text
+answer_line (reply.Numbers list) said = codes "logs " ++ numbers_word list ++ LINE_FEED ∷ []
+answer_line reply.Dropped said = codes "dropped\n"
+answer_line (reply.Unknown id) said = numbered (codes "unknown") id
 answer_line answer said = []

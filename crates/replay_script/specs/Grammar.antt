@@ -27,7 +27,7 @@ use Rattle.upstream_gate.specs.declared.outcome.Outcome.TheVariants as outcome
 use Rattle.hex.specs.Hex.{decode_of}
 use Rattle.cdni_base.specs.Limits.{Bounds, AreInRange}
 use Rattle.cdni_base.specs.declared.type_name.TheConstants.{TYPE_NAME_MAX}
-use Rattle.history.specs.Event.{Event, RefreshBegin, RefreshEnd, Admit, FetchEnd, Finish}
+use Rattle.history.specs.Event.{Event, RefreshBegin, RefreshEnd, Admit, FetchEnd, Finish, Cut, LogFile, ListLogs, DropLog}
 use Rattle.replay_script.specs.Call.{Noted, Said, Scripted, Sets, Calls}
 use Rattle.replay_script.specs.declared.grammar.TheConstants.{SPACE, BAR, LONGEST_METHOD}
 
@@ -184,6 +184,26 @@ finish_of moment text = parts_at SPACE text >>= λ delivery. number_of delivery.
     >>= λ status. number_between 100 999 status.0 >>= λ code. parts_at SPACE status.1 >>= λ total. number_of total.0
     >>= λ sent. option_map (λ entity. Finish number code sent entity moment) (number_of total.1)
 
+-- N
+abbrev pub log_of : List ℕ → Option Event
+log_of text = option_map LogFile (number_of text)
+
+-- N
+abbrev pub droplog_of : List ℕ → Option Event
+droplog_of text = option_map DropLog (number_of text)
+
+-- a word that speaks of records, and what stands behind it
+unfoldable pub of_record : ℕ → List ℕ → List ℕ → Option Event
+of_record moment word behind = if bytes_eq word (codes "finish") then finish_of moment behind
+    else (if bytes_eq word (codes "log") then log_of behind
+    else (if bytes_eq word (codes "droplog") then droplog_of behind else None))
+
+-- a call of one word
+unfoldable pub bare_of : ℕ → List ℕ → Option Event
+bare_of moment text = if bytes_eq text (codes "refresh") then Some (RefreshBegin moment)
+    else (if bytes_eq text (codes "cut") then Some (Cut moment)
+    else (if bytes_eq text (codes "logs") then Some ListLogs else None))
+
 -- ---- a line
 
 -- a word and what stands after the space behind it
@@ -193,11 +213,15 @@ worded moment word = if bytes_eq word.0 (codes "meta") then meta_of moment word.
     else (if bytes_eq word.0 (codes "got") then option_map plain (got_of moment word.1)
     else (if bytes_eq word.0 (codes "lost") then option_map plain (lost_of moment word.1)
     else (if bytes_eq word.0 (codes "metafail") then option_map plain (metafail_of moment word.1)
-    else (if bytes_eq word.0 (codes "finish") then option_map plain (finish_of moment word.1) else None)))))
+    else option_map plain (of_record moment word.0 word.1)))))
+
+-- the event, or else the other
+abbrev pub plainly_or : Option Event → Option Noted → Option Noted
+plainly_or (Some event) other = Some (plain event)
+plainly_or None other = other
 
 unfoldable pub call_of : ℕ → List ℕ → Option Noted
-call_of moment text = if bytes_eq text (codes "refresh") then Some (plain (RefreshBegin moment))
-    else (parts_at SPACE text >>= worded moment)
+call_of moment text = plainly_or (bare_of moment text) (parts_at SPACE text >>= worded moment)
 
 -- PASS MOMENT and a call: the pass, and what follows it
 unfoldable pub scripted_of : List ℕ × List ℕ → Option Said
@@ -253,6 +277,18 @@ AreKeys (url ∷ urls) (key ∷ keys) = ((target : Target) × IsTarget url None 
 -- refresh
 abbrev pub SaysRefresh : ℕ → List ℕ → Noted → Type 0
 SaysRefresh moment text said = (text ≡ codes "refresh") × (said ≡ plain (RefreshBegin moment))
+
+-- cut
+abbrev pub SaysCut : ℕ → List ℕ → Noted → Type 0
+SaysCut moment text said = (text ≡ codes "cut") × (said ≡ plain (Cut moment))
+
+-- logs
+abbrev pub SaysLogs : List ℕ → Noted → Type 0
+SaysLogs text said = (text ≡ codes "logs") × (said ≡ plain ListLogs)
+
+-- one of the three calls of one word
+abbrev pub SaysBare : ℕ → List ℕ → Noted → Type 0
+SaysBare moment text said = SaysRefresh moment text said ⊎ (SaysCut moment text said ⊎ SaysLogs text said)
 
 -- meta R URLS JSON
 pub record SaysMeta (moment : ℕ) (text : List ℕ) (said : Noted) : Type 0 where
@@ -339,11 +375,31 @@ pub record SaysFinish (moment : ℕ) (text : List ℕ) (said : Noted) : Type 0 w
   pub part : IsNumber entity content
   pub call : said ≡ plain (Finish delivery code sent content moment)
 
--- one of the seven calls
+-- log N
+pub record SaysLog (text : List ℕ) (said : Noted) : Type 0 where
+  pub number : List ℕ
+  pub file : ℕ
+  pub words : IsWords (codes "log" ∷ []) number text
+  pub numbered : IsNumber number file
+  pub call : said ≡ plain (LogFile file)
+
+-- droplog N
+pub record SaysDropLog (text : List ℕ) (said : Noted) : Type 0 where
+  pub number : List ℕ
+  pub file : ℕ
+  pub words : IsWords (codes "droplog" ∷ []) number text
+  pub numbered : IsNumber number file
+  pub call : said ≡ plain (DropLog file)
+
+-- one of the three calls that speak of records
+abbrev pub SaysOfRecord : ℕ → List ℕ → Noted → Type 0
+SaysOfRecord moment text said = SaysFinish moment text said ⊎ (SaysLog text said ⊎ SaysDropLog text said)
+
+-- one of the eleven calls
 abbrev pub SaysCall : ℕ → List ℕ → Noted → Type 0
-SaysCall moment text said = SaysRefresh moment text said ⊎ (SaysMeta moment text said ⊎ (SaysGet moment text said
+SaysCall moment text said = SaysBare moment text said ⊎ (SaysMeta moment text said ⊎ (SaysGet moment text said
     ⊎ (SaysGot moment text said ⊎ (SaysLost moment text said ⊎ (SaysMetafail moment text said
-    ⊎ SaysFinish moment text said)))))
+    ⊎ SaysOfRecord moment text said)))))
 
 -- PASS MOMENT and a call
 pub record SaysScripted (line : List ℕ) (said : Scripted) : Type 0 where

@@ -1,11 +1,12 @@
 //! The answer lines of a script.
 
 ghost use Rattle.std.specs.Prelude.{◌≡◌, ◌++◌, ◌∷◌, [], OnOk, codes, decimal};
+ghost use Rattle.std.specs.List.{flat_map};
 ghost use Rattle.cdni_base.specs.Rule.{rule_status, rule_text};
 ghost use Rattle.replay_script.specs.declared.grammar.TheConstants.{SPACE};
 ghost use Rattle.replay_script.specs.declared.step.TheConstants.{LINE_FEED};
 ghost use Rattle.hex.specs.Hex.{encode_lower};
-ghost use Rattle.replay_script.specs.Answer.{kind_word, body_word, ended_text, numbered, endpoint_word, plan_text, cause_text, fault_text, failed_line, answer_line};
+ghost use Rattle.replay_script.specs.Answer.{kind_word, body_word, more_word, numbers_word, log_text, ended_text, numbered, endpoint_word, plan_text, cause_text, fault_text, failed_line, answer_line};
 
 use cdni_base::{Endpoint, HTTP_PORT, Rule};
 use history::Reply;
@@ -46,6 +47,12 @@ pub(crate) fn put_answer(
         Reply::Installed { generation } => put_numbered(out, b"installed", *generation),
         Reply::Older { refresh } => put_numbered(out, b"older", *refresh),
         Reply::Failed => put_failed(out, note),
+        Reply::File { number } => put_numbered(out, b"file", *number),
+        Reply::NothingToCut => put(out, b"nothing-to-cut\n"),
+        Reply::LogText { text } => put_log(out, text.bytes()),
+        Reply::Numbers { list } => put_logs(out, list.as_slice()),
+        Reply::Dropped => put(out, b"dropped\n"),
+        Reply::Unknown { id } => put_numbered(out, b"unknown", *id),
         _ => Ok(()),
     }
 }
@@ -70,6 +77,47 @@ fn put_numbered(out: &mut Vec<u8>, word: &[u8], number: u64) -> Result<(), Alloc
     put(out, b" ")?;
     put_number(out, number)?;
     put(out, b"\n")
+}
+
+fn put_log(out: &mut Vec<u8>, text: &[u8]) -> Result<(), AllocError>
+    ensures { OnOk result (out.new.items ≡ out.old.items ++ log_text text.now) }
+{
+    put_numbered(out, b"text", text.len() as u64)?;
+    put(out, text)?;
+    put(out, b"\n")
+}
+
+fn put_logs(out: &mut Vec<u8>, numbers: &[u64]) -> Result<(), AllocError>
+    ensures { OnOk result (out.new.items ≡ out.old.items ++
+        (codes "logs " ++ numbers_word numbers.now ++ LINE_FEED ∷ [])) }
+{
+    put(out, b"logs ")?;
+    put_numbers(out, numbers)?;
+    put(out, b"\n")
+}
+
+// numbers joined by commas, or `-` where there are none
+fn put_numbers(out: &mut Vec<u8>, numbers: &[u64]) -> Result<(), AllocError>
+    ensures { OnOk result (out.new.items ≡ out.old.items ++ numbers_word numbers.now) }
+{
+    match numbers {
+        [] => put(out, b"-"),
+        [first, rest @ ..] => {
+            put_number(out, *first)?;
+            put_more(out, rest)
+        }
+    }
+}
+
+// the other numbers, each behind a comma
+fn put_more(out: &mut Vec<u8>, numbers: &[u64]) -> Result<(), AllocError>
+    ensures { OnOk result (out.new.items ≡ out.old.items ++ flat_map more_word numbers.now) }
+{
+    'numbers: for number in numbers {
+        put(out, b",")?;
+        put_number(out, *number)?;
+    }
+    Ok(())
 }
 
 fn put_failed(out: &mut Vec<u8>, note: &Option<MetaFault>) -> Result<(), AllocError>

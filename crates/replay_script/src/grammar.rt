@@ -5,7 +5,7 @@ ghost use Rattle.std.specs.List.{list_all};
 ghost use Rattle.metadata_objects.specs.Host.{host_index_of_text};
 ghost use Rattle.node_core.specs.Call.{event_of};
 ghost use Rattle.replay_script.specs.Call.{noted_of, said_of, Sets};
-ghost use Rattle.replay_script.specs.Grammar.{number_below, number_between, bounds_of, limits_of, finish_of, got_of, lost_of, metafail_of, content_of, kind_of, is_kind, is_graphic_byte, body_of, url_target, key_of_url, keys_of, is_token_byte, is_method, protocol_of, place_at, asked_of, get_of, refreshed, meta_of, plain, call_of, scripted_of, line_of, ReadsAs};
+ghost use Rattle.replay_script.specs.Grammar.{number_below, number_between, bounds_of, limits_of, bare_of, of_record, log_of, droplog_of, finish_of, got_of, lost_of, metafail_of, content_of, kind_of, is_kind, is_graphic_byte, body_of, url_target, key_of_url, keys_of, is_token_byte, is_method, protocol_of, place_at, asked_of, get_of, refreshed, meta_of, plain, call_of, scripted_of, line_of, ReadsAs};
 
 use crate::call::{NotedCall, ScriptLine};
 use cdni_base::{
@@ -148,8 +148,8 @@ fn read_below(bound: u64, text: &[u8]) -> Option<u64>
 fn read_call(alloc: Global, moment: Moment, text: &[u8]) -> Result<Option<NotedCall>, AllocError>
     ensures { IfOk result (λ found. option_map noted_of found ≡ call_of moment text.now) }
 {
-    if text == b"refresh".as_slice() {
-        return Ok(Some(plain(Call::RefreshBegin { moment })));
+    if let Some(call) = read_bare(moment, text) {
+        return Ok(Some(plain(call)));
     }
     let Some((word, rest)) = cut_at(SPACE, text) else {
         return Ok(None);
@@ -169,10 +169,63 @@ fn read_call(alloc: Global, moment: Moment, text: &[u8]) -> Result<Option<NotedC
     if word == b"metafail".as_slice() {
         return Ok(read_metafail(moment, rest).map(plain));
     }
-    if word == b"finish".as_slice() {
-        return Ok(read_finish(moment, rest).map(plain));
+    Ok(read_of_record(moment, word, rest).map(plain))
+}
+
+// a call of one word
+#[tactic(auto, unfolding(crate::specs::Grammar::bare_of))]
+fn read_bare(moment: Moment, text: &[u8]) -> Option<Call>
+    ensures { option_map event_of result ≡ bare_of moment text.now }
+{
+    if text == b"refresh".as_slice() {
+        return Some(Call::RefreshBegin { moment });
     }
-    Ok(None)
+    if text == b"cut".as_slice() {
+        return Some(Call::Cut { moment });
+    }
+    if text == b"logs".as_slice() {
+        Some(Call::ListLogs)
+    } else {
+        None
+    }
+}
+
+// a word that speaks of records, and what stands behind it
+#[tactic(auto, unfolding(crate::specs::Grammar::of_record))]
+fn read_of_record(moment: Moment, word: &[u8], rest: &[u8]) -> Option<Call>
+    ensures { option_map event_of result ≡ of_record moment word.now rest.now }
+{
+    if word == b"finish".as_slice() {
+        return read_finish(moment, rest);
+    }
+    if word == b"log".as_slice() {
+        return read_log(rest);
+    }
+    if word == b"droplog".as_slice() {
+        read_droplog(rest)
+    } else {
+        None
+    }
+}
+
+// N
+fn read_log(text: &[u8]) -> Option<Call>
+    ensures { option_map event_of result ≡ log_of text.now }
+{
+    match read_decimal(text) {
+        Some(number) => Some(Call::LogFile { number }),
+        None => None,
+    }
+}
+
+// N
+fn read_droplog(text: &[u8]) -> Option<Call>
+    ensures { option_map event_of result ≡ droplog_of text.now }
+{
+    match read_decimal(text) {
+        Some(number) => Some(Call::DropLog { number }),
+        None => None,
+    }
 }
 
 // a call of which nothing is noted

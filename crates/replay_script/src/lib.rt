@@ -8,4 +8,4 @@ pub mod laws;
 mod step;
 
 pub use call::{NotedCall, ScriptLine};
-pub use step::{LINE_FEED, LINE_LIMIT, SCRIPT_LIMIT, Stepped, answer_one};
+pub use step::{LINE_FEED, LINE_LIMIT, SCRIPT_LIMIT, Stepped, answer_one, scripted_node};

@@ -1,21 +1,25 @@
 //! One line of a script.
 
-ghost use Rattle.std.specs.Prelude.{◌≡◌, ◌+◌};
+ghost use Rattle.std.specs.Prelude.{◌≡◌, ◌+◌, [], IfOk};
 ghost use Rattle.replay_script.specs.Call.{noted_of};
-ghost use Rattle.replay_script.specs.Script.{fits, Answers, SetsLimits, StepsTo};
+ghost use Rattle.node_core.specs.Node.{Stands};
+ghost use Rattle.replay_script.specs.Script.{fits, made_with, Answers, SetsLimits, StepsTo};
 
 use crate::answer::put_answer;
 use crate::call::{NotedCall, ScriptLine};
 use crate::grammar::read_line;
-use cdni_base::Limits;
+use cdni_base::{Limits, Text};
 use node_core::Node;
-use std::alloc::Global;
+use std::alloc::{AllocError, Global};
 
 /// The byte that ends a line.
 pub const LINE_FEED: u8 = b'\n';
 
 /// A line of more bytes, its line feed counted, is no script line.
 pub const LINE_LIMIT: usize = 40_000_000;
+
+/// The host that the log files of a script claim.
+const ORIGIN: &[u8] = b"dcdn.example";
 
 /// No line ends past this byte of a script.
 pub const SCRIPT_LIMIT: u64 = 1 << 40;
@@ -59,6 +63,17 @@ pub fn answer_one(
     }
 }
 
+/// The node that answers a script under these limits, before its first call. Its log files claim the host
+/// `dcdn.example`.
+///
+/// # Errors
+/// Want of memory.
+pub fn scripted_node(alloc: Global, limits: &Limits) -> Result<Node, AllocError>
+    ensures { IfOk result (λ node. Stands node (made_with limits.now).made []) }
+{
+    Node::new(alloc, limits, Text::of(alloc, ORIGIN)?)
+}
+
 // begins anew under these limits, where the line is the first one
 fn set_limits(alloc: Global, node: &mut Node, first: bool, limits: Limits) -> Stepped
     ensures { SetsLimits node.new first limits result }
@@ -66,7 +81,7 @@ fn set_limits(alloc: Global, node: &mut Node, first: bool, limits: Limits) -> St
     if !first {
         return Stepped::NotALine;
     }
-    match Node::new(alloc, limits) {
+    match scripted_node(alloc, &limits) {
         Ok(made) => {
             *node = made;
             Stepped::Answered

@@ -3,8 +3,8 @@ use Rattle.node_core.proofs.NodeLemmas.{finish_told, sound_finish}
 use Rattle.node_core.proofs.node.Node.finish.Goals as goal
 
 pub returns : goal.returns
-returns c = λ made h s. finish_told made h c.self.inside.edge _ c.self.inside.opened (rw (← c.self.view_is) at s) c.args.pass c.args.delivery c.args.status c.args.total c.args.entity c.args.moment _ _
+returns c = λ made h s. finish_told made h c.self.inside.edge _ c.self.inside.control c.self.inside.origin c.self.inside.opened (rw (← c.self.view_is) at s) c.args.pass c.args.delivery c.args.status c.args.total c.args.entity c.args.moment _ _
     c.finish-row.ensures.reply c.finish-row.ensures.after c.reply_of_delivery.ensures
 
 pub invariant_of-self : goal.invariant_of-self
-invariant_of-self c = rw c.finish-row.ensures.after (sound_finish c.self.inside.edge c.self.inside.opened c.self.invariant c.args.pass c.args.delivery (row_of c.args.status c.args.total c.args.entity c.args.moment) _)
+invariant_of-self c = rw c.finish-row.ensures.after (sound_finish c.self.inside.edge c.self.inside.control c.self.inside.opened c.self.invariant c.args.pass c.args.delivery (row_of c.args.status c.args.total c.args.entity c.args.moment) _)

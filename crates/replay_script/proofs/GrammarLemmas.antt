@@ -31,7 +31,7 @@ use Rattle.location_acl.specs.declared.footprint.Place.{Place}
 use Rattle.metadata_objects.specs.Host.{host_index_of_text}
 use Rattle.hex.specs.Hex.{decode_of}
 use Rattle.cdni_base.specs.Limits.{Bounds, AreInRange}
-use Rattle.history.specs.Event.{Event, Admit, FetchEnd, Finish, RefreshEnd, Cut, DropLog, ListLogs, LogFile}
+use Rattle.history.specs.Event.{Event, Admit, FetchEnd, Finish, RefreshEnd, DropLog, ListLogs, LogFile}
 use Rattle.upstream_gate.specs.Got.{GotParts, IsGot, is_got_status}
 use Rattle.upstream_gate.specs.declared.got.TheConstants.{BODY_MAX}
 use Rattle.upstream_gate.specs.declared.outcome.Outcome.TheVariants as outcome

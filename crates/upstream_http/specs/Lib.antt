@@ -1,0 +1,5 @@
+pub mod Answer
+pub mod Exchange
+pub mod Fields
+pub mod FinalHead
+pub mod Request

@@ -9,6 +9,7 @@ use Rattle.http_wire.specs.Chunked.{IsChunked, IsTooLarge, IsBadBody, IsCutBody,
 use Rattle.http_wire.specs.Response.{ResponseParts}
 use Rattle.http_wire.specs.declared.body.BodyRead.{BodyRead}
 use Rattle.http_wire.specs.declared.body.BodyRead.TheVariants as body
+use Rattle.http_wire.specs.declared.limits.TheConstants.{HEAD_MAX}
 use Rattle.upstream_gate.specs.Got.{GotParts, is_got_status}
 use Rattle.upstream_gate.specs.declared.got.TheConstants.{BODY_MAX}
 use Rattle.upstream_gate.specs.declared.outcome.Outcome.{Outcome}
@@ -166,7 +167,7 @@ ReadsFramed limit (framing.Length count) old new before after result =
     × (count ≤ limit → ReadsLength count old new before after result)
 ReadsFramed limit framing.ToEnd old new before after result = ReadsToEnd limit old new before after result
 ReadsFramed limit framing.Wrong old new before after result = (result ≡ body.BadLength (length before))
-    × IsUntouched old new before after
+    × IsUntouched old new before after × (length before ≤ HEAD_MAX)
 
 -- where the body is to come, it is the answer, or that it is too long
 abbrev pub FindsFramed : ℕ → Framing → Option (List ℕ) → List ℕ → BodyRead → Type 0

@@ -1,6 +1,6 @@
 -- What the header fields of an answer tell of its body (RFC 9110, section 8, and RFC 9112, section 6).
-use Rattle.std.specs.Prelude.{ℕ, ◌==◌, nat_le, Bool, List, [], ◌∷◌, length, codes, bytes_eq, if◌then◌else◌, None, Some, list_all}
-use Rattle.std.specs.List.{fold}
+use Rattle.std.specs.Prelude.{ℕ, ◌==◌, nat_le, Bool, List, [], ◌∷◌, length, codes, bytes_eq, if◌then◌else◌, None, Some}
+use Rattle.std.specs.List.{fold, list_all}
 use Rattle.std.specs.Str.{str_to_ascii_lowercase}
 use Rattle.std.specs.declared.option.Option.{Option}
 use Rattle.byte_range.specs.Want.{number_of}

@@ -5,6 +5,7 @@ use Rattle.std.specs.declared.option.Option.{Option}
 use Rattle.std.specs.Io.KnownBytes.{Consumes, IsAtEnd}
 use Rattle.httparse.specs.Grammar.{MayBecomeResponse}
 use Rattle.edge_base.specs.Causes.{Rose}
+use Rattle.http_wire.specs.Body.{capped}
 use Rattle.http_wire.specs.Moves.{Moves}
 use Rattle.http_wire.specs.Reading.{IsHopeless}
 use Rattle.http_wire.specs.Response.{ResponseParts, SpellsResponse, HasNoResponseHead, IsHopelessResponse}
@@ -65,9 +66,9 @@ abbrev pub ReadsFinal : Option (List ℕ) → Option (List ℕ) → List ℕ →
 ReadsFinal old new after (final.Head head taken) = (front : List ℕ) × Moves old new [] after front
     × IsFinalHead front head × (taken ≡ length front)
 ReadsFinal old new after (final.Malformed taken) = (bytes : List ℕ) × Consumes old new bytes × IsBadStart bytes
-    × (taken ≡ length bytes)
+    × (taken ≡ capped (length bytes))
 ReadsFinal old new after (final.Cut taken) = (bytes : List ℕ) × Consumes old new bytes × IsAtEnd new
-    × IsCutStart bytes × (taken ≡ length bytes)
+    × IsCutStart bytes × (taken ≡ capped (length bytes))
 ReadsFinal old new after final.Failed = (bytes : List ℕ) × Consumes old new bytes
 ReadsFinal old new after final.Memory = (bytes : List ℕ) × Consumes old new bytes
 

@@ -1,9 +1,8 @@
 //! What the header fields of an answer tell of its body (RFC 9110, section 8, and RFC 9112, section 6).
 
-ghost use Rattle.std.specs.Prelude.{◌≡◌, ◌≤◌, IfOk, IsTrue, codes, length, list_all};
-ghost use Rattle.std.specs.List.{fold};
+ghost use Rattle.std.specs.Prelude.{◌≡◌, ◌&&◌, IfOk, codes};
 ghost use Rattle.http_wire.specs.Fields.{values_of};
-ghost use Rattle.upstream_http.specs.Fields.{is_word, transfer_of, after_length, length_of, framing_in, framing_of, are_identity, kind_in, kind_of};
+ghost use Rattle.upstream_http.specs.Fields.{is_word, transfer_of, after_length, length_of, framing_of, are_identity, kind_in, kind_of};
 
 use byte_range::number_of;
 use cdni_base::{Text, TypeName};
@@ -78,10 +77,17 @@ pub(crate) fn is_identity(head: &ResponseHead) -> bool
     'fields: for i in 0..head.header_count() {
         let header = head.header(i);
         if header.name.eq_ignore_ascii_case(b"content-encoding") {
-            identity = identity && is_word(b"identity", header.value);
+            identity = is_still_identity(identity, header.value);
         }
     }
     identity
+}
+
+// whether it is so, and this coding is identity
+fn is_still_identity(identity: bool, value: &[u8]) -> bool
+    ensures { result ≡ (identity && is_word (codes "identity") value.now) }
+{
+    identity && is_word(b"identity", value)
 }
 
 // whether both are the same word, in any case

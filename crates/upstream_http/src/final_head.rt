@@ -49,17 +49,17 @@ pub(crate) fn read_final<S: Source>(
                 }
                 if skipped == INTERIM_MAX {
                     return FinalRead::Malformed {
-                        taken: taken + inbox.bytes().len() as u64,
+                        taken: taken.saturating_add(inbox.bytes().len() as u64),
                     };
                 }
                 skipped += 1;
             }
             HeadRead::Ended => return FinalRead::Cut { taken },
             HeadRead::CutShort { taken: more } => return FinalRead::Cut {
-                taken: taken + more,
+                taken: taken.saturating_add(more),
             },
             HeadRead::BadHead { taken: more } => return FinalRead::Malformed {
-                taken: taken + more,
+                taken: taken.saturating_add(more),
             },
             HeadRead::ReadFault => return FinalRead::Failed,
             HeadRead::Memory => return FinalRead::Memory,

@@ -2,12 +2,12 @@
 #![tactic(auto)]
 
 mod answer;
-mod exchange;
+mod exchanging;
 mod fields;
 mod final_head;
 mod request;
 #[cfg(test)]
 mod tests;
 
-pub use exchange::exchange;
+pub use exchanging::exchange;
 pub use final_head::INTERIM_MAX;

@@ -51,7 +51,7 @@ told_moves after left = record { taken = after; consumed = refl; parts = refl }
 not_bad : (after left text more : List ℕ) (head : ResponseParts) → IsNoHead after → SpellsResponse text head → after ++ left ≡ text ++ more → ⊥
 not_bad after left text more head bad spells same =
     finds SpellsResponse HasNoResponseHead MayBecomeResponse IsHopelessResponse response_grammar (Some (after ++ left)) (Some left) [] after (read.BadHead (length after))
-        (told_moves after left, record { count = refl; none = bad.0; cause = bad.1 }) text more head spells (after ++ left, refl, same)
+    (told_moves after left, record { count = refl; none = bad.0; cause = bad.1 }) text more head spells (after ++ left, refl, same)
 
 not_cut : (after text more : List ℕ) (head : ResponseParts) → IsCutHead after → SpellsResponse text head → after ≡ text ++ more → ⊥
 not_cut after text more head (inl none) spells same =
@@ -99,17 +99,17 @@ final_text front more head f = ap (λ x. x ++ more) f.is ∙ append_assoc (heads
 pub same_final : (front front' rest rest' : List ℕ) (head head' : ResponseParts) → IsFinalHead front head → IsFinalHead front' head' → front ++ rest ≡ front' ++ rest' → (head' ≡ head) × (rest ≡ rest')
 same_final front front' rest rest' head head' f f' same =
     one_final f.interim f'.interim f.text rest f'.text rest' head head' f.are_interim f'.are_interim f.spells f'.spells f.final f'.final
-        (sym (final_text front rest head f) ∙ same ∙ final_text front' rest' head' f')
+    (sym (final_text front rest head f) ∙ same ∙ final_text front' rest' head' f')
 
 pub not_bad_start : (bytes left front rest : List ℕ) (head : ResponseParts) → IsBadStart bytes → IsFinalHead front head → bytes ++ left ≡ front ++ rest → ⊥
 not_bad_start bytes left front rest head (interim, after, begins, inl (few, bad)) f same =
     no_bad_start interim f.interim after left f.text rest head begins.are_interim f.are_interim bad f.spells f.final
-        (sym (append_assoc (heads_text interim) after left) ∙ ap (λ x. x ++ left) (sym begins.is) ∙ same ∙ final_text front rest head f)
+    (sym (append_assoc (heads_text interim) after left) ∙ ap (λ x. x ++ left) (sym begins.is) ∙ same ∙ final_text front rest head f)
 not_bad_start bytes left front rest head (interim, after, begins, inr many) f same =
     not_more interim f.interim (after ++ left) f.text rest head begins.are_interim f.are_interim f.spells f.final (omega (arith, many, f.few))
-        (sym (append_assoc (heads_text interim) after left) ∙ ap (λ x. x ++ left) (sym begins.is) ∙ same ∙ final_text front rest head f)
+    (sym (append_assoc (heads_text interim) after left) ∙ ap (λ x. x ++ left) (sym begins.is) ∙ same ∙ final_text front rest head f)
 
 pub not_cut_start : (bytes front rest : List ℕ) (head : ResponseParts) → IsCutStart bytes → IsFinalHead front head → bytes ≡ front ++ rest → ⊥
 not_cut_start bytes front rest head (interim, after, begins, few, cut) f same =
     no_cut_start interim f.interim after f.text rest head begins.are_interim f.are_interim cut f.spells f.final
-        (sym begins.is ∙ same ∙ final_text front rest head f)
+    (sym begins.is ∙ same ∙ final_text front rest head f)

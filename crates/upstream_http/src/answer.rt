@@ -85,13 +85,7 @@ fn read_framed<S: Source>(
 }
 
 // what a body makes of an answer with this head, before which so many bytes came
-fn outcome_of(
-    alloc: Global,
-    so_far: u64,
-    status: u16,
-    kind: TypeName,
-    read: BodyRead,
-) -> Outcome
+fn outcome_of(alloc: Global, so_far: u64, status: u16, kind: TypeName, read: BodyRead) -> Outcome
     requires status { IsTrue (is_got_status status) }
     requires short { IsWithin read }
     ensures { Becomes so_far status kind read result }

@@ -75,12 +75,7 @@ fn within(limit: u64) -> u64
 }
 
 // reads the answer, whose body has at most so many bytes
-fn read_answer<S: Source>(
-    alloc: Global,
-    source: &mut S,
-    inbox: &mut Inbox,
-    limit: u64,
-) -> Outcome
+fn read_answer<S: Source>(alloc: Global, source: &mut S, inbox: &mut Inbox, limit: u64) -> Outcome
     requires empty { inbox.old ≡ [] }
     requires within { limit ≤ BODY_MAX }
     ensures answer { Answers limit (S.left source.old) (S.left source.new) result }
@@ -88,9 +83,7 @@ fn read_answer<S: Source>(
     ensures cause { HasGateCause (S.faults source.old) (S.faults source.new) result }
 {
     match read_final(alloc, source, inbox) {
-        FinalRead::Head(head, so_far) => {
-            read_rest(alloc, source, inbox, &head, so_far, limit)
-        }
+        FinalRead::Head(head, so_far) => { read_rest(alloc, source, inbox, &head, so_far, limit) }
         FinalRead::Malformed { taken } => Outcome::Malformed { taken },
         FinalRead::Cut { taken } => Outcome::Cut { taken },
         FinalRead::Failed => Outcome::Failed,

@@ -29,11 +29,7 @@ pub(crate) enum FinalRead {
 }
 
 // reads heads until that of a final answer comes, which is the 17th at the latest
-pub(crate) fn read_final<S: Source>(
-    alloc: Global,
-    source: &mut S,
-    inbox: &mut Inbox,
-) -> FinalRead
+pub(crate) fn read_final<S: Source>(alloc: Global, source: &mut S, inbox: &mut Inbox) -> FinalRead
     requires { inbox.old ≡ [] }
     ensures bytes { ReadsFinal (S.left source.old) (S.left source.new) inbox.new result }
     ensures cause { HasFinalCause (S.faults source.old) (S.faults source.new) result }

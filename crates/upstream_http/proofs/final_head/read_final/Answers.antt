@@ -23,7 +23,7 @@ returns-then-skipped-eq-INTERIM_MAX-clause-bytes g c =
     let low : c.in-Head.head.status < FINAL_MIN = omega (arith, c.if-status-ge-FINAL_MIN.false, c.status.ensures) in
     let more = one_more _ _ _ _ _ _ far.0 c.in-Head.head far.3 far.1 head.1 head.2 low in
     one_too_many _ _ _ more.0 _ more.3 more.1 (omega (arith, more.2, far.2, c.if-skipped-eq-INTERIM_MAX.true))
-        (omega (arith, more.4, far.4, c.size.ensures, ap length c.bytes.ensures.bytes, c.saturating_add.ensures))
+    (omega (arith, more.4, far.4, c.size.ensures, ap length c.bytes.ensures.bytes, c.saturating_add.ensures))
 
 pub heads-preserved : goal.heads-preserved
 heads-preserved g c =

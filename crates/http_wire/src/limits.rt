@@ -3,6 +3,8 @@
 ghost use Rattle.std.specs.Prelude.{◌≡◌};
 ghost use Rattle.http_wire.specs.Limits.{feeds};
 
+use listing::cut_at;
+
 /// The most bytes of a head.
 pub const HEAD_MAX: usize = 16384;
 
@@ -16,9 +18,19 @@ pub const FIELDS_MAX: usize = 64;
 pub(crate) const LINE_FEED: u8 = 10;
 
 // how many line feeds stand in the bytes
-#[tactic(auto, unfolding(crate::specs::Limits::feeds))]
 pub(crate) fn feeds_in(bytes: &[u8]) -> usize
     ensures { result ≡ feeds bytes.now }
 {
-    bytes.iter().filter(|byte| **byte == LINE_FEED).count()
+    let most = bytes.len();
+    let mut count = 0;
+    let mut rest = bytes;
+    'lines: loop {
+        match cut_at(LINE_FEED, rest) {
+            Some((_, others)) => {
+                count += 1;
+                rest = others;
+            }
+            None => return count,
+        }
+    }
 }

@@ -2,7 +2,7 @@
 use Rattle.std.specs.Prelude.{◌≡◌, ◌⊎◌, ℕ, ◌+◌, ◌<◌, ◌≤◌, Bool, true, false, ◌&&◌, List, [], ◌++◌, length, codes}
 use Rattle.std.specs.declared.option.Option.{Option}
 use Rattle.std.specs.Io.KnownBytes.{IsAtEnd}
-use Rattle.http_wire.specs.Fields.{values_of}
+use Rattle.upstream_http.specs.List.{items_of}
 use Rattle.http_wire.specs.Moves.{Moves, IsToCome}
 use Rattle.http_wire.specs.Body.{capped, IsUntouched, ReadsLength, ReadsToEnd, FindsLength, FindsToEnd}
 use Rattle.http_wire.specs.Chunked.{IsChunked, IsTooLarge, IsBadBody, IsCutBody, ReadsChunked, FindsChunked}
@@ -20,7 +20,7 @@ use Rattle.upstream_http.specs.declared.fields.Framing.TheVariants as framing
 
 -- the status is one that content has, and there is no other content coding than identity
 abbrev pub is_wanted : ResponseParts → Bool
-is_wanted head = is_got_status head.status && are_identity (values_of (codes "content-encoding") head.headers)
+is_wanted head = is_got_status head.status && are_identity (items_of (codes "content-encoding") head.headers)
 
 -- what an answer with this head and body is
 abbrev pub got_of : ResponseParts → List ℕ → GotParts

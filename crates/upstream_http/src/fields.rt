@@ -1,9 +1,10 @@
 //! What the header fields of an answer tell of its body (RFC 9110, section 8, and RFC 9112, section 6).
 
-ghost use Rattle.std.specs.Prelude.{◌≡◌, ◌&&◌, IfOk, codes};
-ghost use Rattle.http_wire.specs.Fields.{values_of};
-ghost use Rattle.upstream_http.specs.Fields.{is_word, transfer_of, after_length, length_of, framing_of, are_identity, kind_in, kind_of};
+ghost use Rattle.std.specs.Prelude.{◌≡◌, IfOk, codes};
+ghost use Rattle.upstream_http.specs.List.{items_of};
+ghost use Rattle.upstream_http.specs.Fields.{is_word, transfer_of, only_chunked, framing_of, is_no_coding, are_identity, kind_in, kind_of};
 
+use crate::list::{Told, told_by};
 use byte_range::number_of;
 use cdni_base::{Text, TypeName};
 use http_wire::{Found, ResponseHead};
@@ -22,72 +23,103 @@ pub(crate) enum Framing {
     Wrong,
 }
 
+// the transfer codings (RFC 9112, section 7)
+#[derive(Clone, Copy, Debug, PartialEq, Eq)]
+pub(crate) enum Transfer {
+    // none
+    None,
+    // chunked, once
+    Chunked,
+    // others
+    Other,
+}
+
+impl Told for Framing {
+    ghost use Rattle.upstream_http.specs.Fields.{after_length};
+
+    ghost after = { after_length };
+
+    // with the next length that is announced
+    fn with(self, item: &[u8]) -> Framing {
+        match (self, number_of(item)) {
+            (Framing::ToEnd, Some(count)) => Framing::Length(count),
+            (Framing::Length(count), Some(other)) if count == other => Framing::Length(count),
+            _ => Framing::Wrong,
+        }
+    }
+}
+
+impl Told for Transfer {
+    ghost use Rattle.upstream_http.specs.Fields.{after_transfer};
+
+    ghost after = { after_transfer };
+
+    // with the next coding, where it is not empty
+    fn with(self, item: &[u8]) -> Transfer {
+        if item.is_empty() {
+            return self;
+        }
+        match self {
+            Transfer::None => transfer_of(item),
+            _ => Transfer::Other,
+        }
+    }
+}
+
+impl Told for bool {
+    ghost use Rattle.std.specs.Prelude.{◌&&◌};
+    ghost use Rattle.upstream_http.specs.Fields.{is_no_coding};
+
+    ghost after = { λ told item. told && is_no_coding item };
+
+    // whether the next one is no coding either
+    fn with(self, item: &[u8]) -> bool {
+        self && is_no_coding(item)
+    }
+}
+
 // how the end of the body is told: by Transfer-Encoding, else by Content-Length, else by the end of the source
 pub(crate) fn framing_of(head: &ResponseHead) -> Framing
     ensures { result ≡ framing_of head.now.headers }
 {
     match head.value(b"transfer-encoding") {
-        Found::None => length_of(head),
-        Found::One(value) => transfer_of(value),
-        Found::Many => Framing::Wrong,
+        Found::None => told_by(head, b"content-length", Framing::ToEnd),
+        _ => only_chunked(told_by(head, b"transfer-encoding", Transfer::None)),
     }
 }
 
-// what the one value of Transfer-Encoding tells
-fn transfer_of(value: &[u8]) -> Framing
-    ensures { result ≡ transfer_of value.now }
+fn only_chunked(transfer: Transfer) -> Framing
+    ensures { result ≡ only_chunked transfer }
 {
-    if value.eq_ignore_ascii_case(b"chunked") {
-        Framing::Chunked
-    } else {
-        Framing::Wrong
-    }
-}
-
-// what all values of Content-Length tell, which may be repeated with one number
-fn length_of(head: &ResponseHead) -> Framing
-    ensures { result ≡ length_of (values_of (codes "content-length") head.now.headers) }
-{
-    let mut told = Framing::ToEnd;
-    'fields: for i in 0..head.header_count() {
-        let header = head.header(i);
-        if header.name.eq_ignore_ascii_case(b"content-length") {
-            told = after_length(told, header.value);
-        }
-    }
-    told
-}
-
-// what one value more of Content-Length tells
-fn after_length(told: Framing, value: &[u8]) -> Framing
-    ensures { result ≡ after_length told value.now }
-{
-    match (told, number_of(value)) {
-        (Framing::ToEnd, Some(count)) => Framing::Length(count),
-        (Framing::Length(count), Some(other)) if count == other => Framing::Length(count),
+    match transfer {
+        Transfer::Chunked => Framing::Chunked,
         _ => Framing::Wrong,
+    }
+}
+
+// which coding this word names
+fn transfer_of(word: &[u8]) -> Transfer
+    ensures { result ≡ transfer_of word.now }
+{
+    if is_word(b"chunked", word) {
+        Transfer::Chunked
+    } else {
+        Transfer::Other
     }
 }
 
 // whether no Content-Encoding names another coding than identity
 pub(crate) fn is_identity(head: &ResponseHead) -> bool
-    ensures { result ≡ are_identity (values_of (codes "content-encoding") head.now.headers) }
+    ensures { result ≡ are_identity (items_of (codes "content-encoding") head.now.headers) }
 {
-    let mut identity = true;
-    'fields: for i in 0..head.header_count() {
-        let header = head.header(i);
-        if header.name.eq_ignore_ascii_case(b"content-encoding") {
-            identity = is_still_identity(identity, header.value);
-        }
-    }
-    identity
+    told_by(head, b"content-encoding", true)
 }
 
-// whether it is so, and this coding is identity
-fn is_still_identity(identity: bool, value: &[u8]) -> bool
-    ensures { result ≡ (identity && is_word (codes "identity") value.now) }
+// whether this item is empty or identity
+fn is_no_coding(item: &[u8]) -> bool
+    ensures { result ≡ is_no_coding item.now }
 {
-    identity && is_word(b"identity", value)
+    item.is_empty() || is_word(b"identity", item)
 }
 
 // whether both are the same word, in any case

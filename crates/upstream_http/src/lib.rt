@@ -5,6 +5,7 @@ mod answer;
 mod exchanging;
 mod fields;
 mod final_head;
+mod list;
 mod request;
 #[cfg(test)]
 mod tests;

@@ -72,7 +72,7 @@ fn requests(rt: HostRuntime) -> Result<(), Fail> {
 fn answers(rt: HostRuntime) -> Result<(), Fail> {
     let alloc = rt.alloc();
     let ones = vec![in alloc; 1u64; 256]?;
-    let cases: [(&str, &str); 32] = [
+    let cases: [(&str, &str); 40] = [
         ("200 OK\r\nContent-Length: 5\r\n\r\nabcdefg", "200 |abcde"),
         (
             "404\r\nContent-Type: a/b\r\nContent-Length: 0\r\n\r\n",
@@ -161,6 +161,29 @@ fn answers(rt: HostRuntime) -> Result<(), Fail> {
             "cut 58",
         ),
         ("200 OK\r\nContent-Le", "cut 27"),
+        ("200 OK\r\n\r\nabcde", "200 |abcde"),
+        (
+            "200 OK\r\nContent-Length: 3, 3\r\nContent-Length: 03\r\n\r\nabc",
+            "200 |abc",
+        ),
+        ("200 OK\r\nContent-Length: 3,4\r\n\r\n", "malformed 40"),
+        ("200 OK\r\nContent-Length: 3,\r\n\r\n", "malformed 39"),
+        (
+            "200 OK\r\nTransfer-Encoding: ,\tchunked ,\r\n\r\n0\r\n\r\n",
+            "200 |",
+        ),
+        (
+            "200 OK\r\nTransfer-Encoding: chunked, chunked\r\n\r\n",
+            "malformed 56",
+        ),
+        (
+            "200 OK\r\nTransfer-Encoding:\r\nContent-Length: 0\r\n\r\n",
+            "malformed 58",
+        ),
+        (
+            "200 OK\r\nContent-Encoding: identity , br\r\n\r\n",
+            "refused 200",
+        ),
         ("100 Continue\r\n\r\n", "cut 25"),
     ];
     for (rest, want) in cases {
@@ -206,6 +229,49 @@ fn limits_of_bodies(rt: HostRuntime) -> Result<(), Fail> {
         let bytes = format!(in alloc; "HTTP/1.1 200 OK\r\nContent-Length: {length}\r\n\r\n")?;
         let told = exchanged(alloc, bytes.as_bytes(), &[], limit)?;
         assert_eq!(rt; told.as_str(), want);
+    }
+    Ok(())
+}
+
+// an answer that reaches to the end, whose body has so many bytes
+fn long_answer(alloc: Global, length: usize, limit: u64) -> Result<Outcome, Fail> {
+    let mut bytes = Vec::from_slice(alloc, b"HTTP/1.1 200 OK\r\n\r\n")?;
+    bytes.extend_from_slice(&vec![in alloc; 7u8; length]?)?;
+    let mut source = MemorySource::new(alloc, &bytes, &[])?;
+    let mut sink = MemorySink::new(alloc, &[])?;
+    let ask = ask_of(alloc, b"v.example")?;
+    Ok(exchange(alloc, &mut source, &mut sink, &ask, limit))
+}
+
+#[test]
+fn the_longest_bodies(rt: HostRuntime) -> Result<(), Fail> {
+    let alloc = rt.alloc();
+    let outcome = long_answer(alloc, 16_777_216, u64::MAX)?;
+    assert!(rt; matches!(outcome, Outcome::Got(_)));
+    let outcome = long_answer(alloc, 16_777_217, u64::MAX)?;
+    assert!(rt; matches!(outcome, Outcome::TooLong { length: 16_777_217 }));
+    Ok(())
+}
+
+#[test]
+fn limits_of_heads(rt: HostRuntime) -> Result<(), Fail> {
+    let alloc = rt.alloc();
+    for (fill, fields, whole) in [
+        (16_367, 0, true),
+        (16_368, 0, false),
+        (1, 64, true),
+        (1, 65, false),
+    ] {
+        let mut bytes = Vec::from_slice(alloc, b"HTTP/1.1 200 ")?;
+        bytes.extend_from_slice(&vec![in alloc; 120u8; fill]?)?;
+        bytes.extend_from_slice(b"\r\n")?;
+        for _ in 0..fields {
+            bytes.extend_from_slice(b"a:\n")?;
+        }
+        bytes.extend_from_slice(b"\r\n")?;
+        let told = exchanged(alloc, &bytes, &[], 5)?;
+        assert_eq!(rt; told.as_str() == "200 |", whole, "{fill} {fields}: {told}");
+        assert_eq!(rt; told.as_str().starts_with("malformed "), !whole);
     }
     Ok(())
 }

@@ -9,8 +9,8 @@
 //! Without arguments each is done ten times, and the bodies once.
 #![tactic(auto)]
 
-use anyhow::bail;
 use answer_head::{ANSWER_HEAD_MAX, AnswerHead, put_head};
+use anyhow::bail;
 use cdni_base::{Scratch, TypeName};
 use edge_base::MemorySource;
 use http_wire::{BodyRead, HeadRead, Inbox, read_chunked, read_head, read_length};
@@ -20,7 +20,9 @@ use std::alloc::{AllocError, Global};
 use std::env;
 
 const MOST: usize = 200;
+
 const SHORT: &[u8] = b"GET /a HTTP/1.1\r\nHost: v.example\r\n\r\n";
+
 const LONG: &[u8] = b"GET /films/trailers/one/segment-0001.ts HTTP/1.1\r\n\
 Host: video.v.example\r\n\
 User-Agent: Mozilla/5.0 (X11; Linux x86_64; rv:128.0) Gecko/20100101\r\n\
@@ -35,7 +37,9 @@ Cache-Control: no-cache\r\n\
 Pragma: no-cache\r\n\
 X-Forwarded-For: 192.0.2.77\r\n\
 \r\n";
+
 const CHUNKS: usize = 128;
+
 const CHUNK: usize = 8192;
 
 // 1 where all header fields that were found stand within the head, which they do, and 0 else.

@@ -1,15 +1,16 @@
 -- How many line feeds stand in bytes.
-use Rattle.std.proofs.Common.{◌≡◌, ℕ, ◌+◌, ◌<◌, ◌≤◌, Bool, ltb, List, [], ◌∷◌, ◌++◌, length, take, drop, refl, sym, ◌∙◌, ap, subst, arith, cond, Option, Some, None, ⊎_elim, append_assoc, length-append, length-drop}
+use Rattle.std.proofs.Common.{◌≡◌, ℕ, ◌+◌, ◌<◌, ◌≤◌, Bool, ltb, List, [], ◌∷◌, ◌++◌, length, take, drop, refl, sym, ◌∙◌, ap, subst, arith, cond, Option, Some, None, ⊎_elim, inl, inr, append_assoc, length-append, length-drop}
 use Rattle.std.specs.Prelude.{◌==◌}
 use Rattle.std.specs.List.{flat_map, count_by, position_or_len}
 use Rattle.std.specs.Option.{option_map}
-use Rattle.std.proofs.lemmas.Bool.{cases_Bool, cond-true, cond-false, ltb-true, ltb-false}
+use Rattle.std.proofs.lemmas.Bool.{cases_Bool, cases_lt, cond-true, cond-false, ltb-true, ltb-false}
 use Rattle.std.proofs.lemmas.List.Splits.{slice_split_first, slice_split_none, length-slice_split}
 use Rattle.std.proofs.lemmas.List.{take-append-drop, drop-append-le}
 use Rattle.std.proofs.lemmas.List.Sums.{sum_by-append, count_by-le-length, fails_before_first}
 use Rattle.httparse.specs.Grammar.{LineEnd, crlf, lf, print_end, Field, print_field, print_section}
 use Rattle.listing.specs.Word.{parts_at}
 use Rattle.http_wire.specs.Limits.{feeds}
+use Rattle.http_wire.specs.declared.limits.TheConstants.{FEEDS_MAX}
 
 pub feeds-append : (xs ys : List ℕ) → feeds (xs ++ ys) ≡ feeds xs + feeds ys
 unfolding feeds
@@ -21,6 +22,12 @@ feeds-take n xs = omega (arith, ap feeds (sym (take-append-drop n xs)), feeds-ap
 pub feeds-le-length : (xs : List ℕ) → feeds xs ≤ length xs
 unfolding feeds
 feeds-le-length xs = count_by-le-length (λ byte. byte == 10) xs
+
+pub few_feeds : (xs : List ℕ) → (FEEDS_MAX < feeds xs → ⊥) → feeds xs ≤ FEEDS_MAX
+few_feeds xs never = elim (cases_lt FEEDS_MAX (feeds xs)) [
+  | inl many ↦ absurd (never many)
+  | inr few ↦ few
+]
 
 abbrev is_feed : ℕ → Bool
 is_feed byte = byte == 10

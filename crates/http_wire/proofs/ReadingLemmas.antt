@@ -1,5 +1,5 @@
 -- Tries at bytes.
-use Rattle.std.proofs.Common.{◌≡◌, ℕ, ◌<◌, List, length}
+use Rattle.std.proofs.Common.{ℕ, List}
 use Rattle.http_wire.specs.Reading.{Tries, TriesSome}
 use Rattle.http_wire.specs.declared.reading.Tried.{Tried}
 use Rattle.http_wire.specs.declared.reading.Tried.TheVariants as tried

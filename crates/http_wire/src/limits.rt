@@ -1,7 +1,8 @@
 //! The limits of a head.
 
-ghost use Rattle.std.specs.Prelude.{◌≡◌};
+ghost use Rattle.std.specs.Prelude.{◌≡◌, ◌<◌, ◌↔◌, IsTrue};
 ghost use Rattle.http_wire.specs.Limits.{feeds};
+ghost use Rattle.http_wire.specs.declared.limits.TheConstants.{FEEDS_MAX};
 
 use listing::cut_at;
 
@@ -16,6 +17,13 @@ pub const FIELDS_MAX: usize = 64;
 
 /// `\n`
 pub(crate) const LINE_FEED: u8 = 10;
+
+// whether more line feeds stand in the bytes than in any head
+pub(crate) fn exceeds_feeds(bytes: &[u8]) -> bool
+    ensures { IsTrue result ↔ (FEEDS_MAX < feeds bytes.now) }
+{
+    bytes.len() > FEEDS_MAX && feeds_in(bytes) > FEEDS_MAX
+}
 
 // how many line feeds stand in the bytes
 pub(crate) fn feeds_in(bytes: &[u8]) -> usize

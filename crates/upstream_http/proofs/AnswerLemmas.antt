@@ -1,22 +1,18 @@
 -- What a body makes of an answer.
-use Rattle.std.proofs.Common.{◌≡◌, ℕ, ◌+◌, ◌<◌, ◌≤◌, Bool, true, false, List, [], ◌++◌, length, refl, sym, ◌∙◌, ap, subst, arith, ◌⊎◌, inl, inr, Option, Some, append_assoc, append-nil, length-append}
-use Rattle.std.specs.Io.KnownBytes.{IsAtEnd, Keeps, Consumes}
+use Rattle.std.proofs.Common.{◌≡◌, ℕ, ◌+◌, ◌<◌, ◌≤◌, true, List, [], ◌++◌, length, refl, sym, ◌∙◌, ap, subst, arith, inl, inr, Option, append-nil, length-append}
+use Rattle.std.specs.Io.KnownBytes.{IsAtEnd, Keeps}
 use Rattle.std.proofs.KnownBytes.{Consumes-nil, Consumes-kept}
 use Rattle.std.proofs.lemmas.Bool.{false≢true, cases_lt}
 use Rattle.http_wire.specs.Moves.{Moves, IsToCome}
-use Rattle.http_wire.specs.Body.{capped, IsUntouched, IsBodyOrFault, IsTooLargeOrFault}
-use Rattle.http_wire.specs.Chunked.{IsChunked}
+use Rattle.http_wire.specs.Body.{capped, IsBodyOrFault, IsTooLargeOrFault}
 use Rattle.http_wire.specs.Response.{ResponseParts}
 use Rattle.http_wire.specs.declared.body.BodyRead.{BodyRead}
 use Rattle.http_wire.specs.declared.body.BodyRead.TheVariants as body
 use Rattle.http_wire.proofs.FoundLemmas.{still_left}
-use Rattle.http_wire.proofs.MoveLemmas.{moves_nothing, moves_kept}
-use Rattle.upstream_gate.specs.Got.{GotParts}
 use Rattle.upstream_gate.specs.declared.got.TheConstants.{BODY_MAX}
 use Rattle.upstream_gate.specs.declared.outcome.Outcome.{Outcome}
-use Rattle.upstream_gate.specs.declared.outcome.Outcome.TheVariants as outcome
 use Rattle.upstream_http.specs.Fields.{framing_of, kind_of}
-use Rattle.upstream_http.specs.Answer.{is_wanted, got_of, HasBody, HasTooMuch, HasBadBody, HasCutBody, Rests, HasTaken, Ends, ReadsFramed, FindsFramed, IsWithin, Becomes, FindsEnd, Settles, SettlesBody, IsGotOrFault, IsTooLongOrFault, IsMalformedOrFault, IsCutOrFault}
+use Rattle.upstream_http.specs.Answer.{is_wanted, got_of, HasBody, HasTooMuch, HasBadBody, HasCutBody, Rests, HasTaken, Ends, ReadsFramed, FindsFramed, Becomes, FindsEnd, SettlesBody, IsGotOrFault, IsTooLongOrFault, IsMalformedOrFault, IsCutOrFault}
 use Rattle.upstream_http.specs.declared.fields.Framing.{Framing}
 use Rattle.upstream_http.specs.declared.fields.Framing.TheVariants as framing
 

@@ -1,6 +1,6 @@
 -- Heads that are read one after the other, until that of a final answer comes.
-use Rattle.std.proofs.Common.{◌≡◌, ℕ, ◌+◌, ◌*◌, ◌<◌, ◌≤◌, List, [], ◌∷◌, ◌++◌, length, refl, sym, ◌∙◌, ap, subst, arith, inl, inr, Option, append_assoc, append-nil, length-append}
-use Rattle.std.specs.Io.KnownBytes.{Consumes, IsAtEnd}
+use Rattle.std.proofs.Common.{◌≡◌, ℕ, ◌+◌, ◌*◌, ◌<◌, ◌≤◌, List, [], ◌∷◌, ◌++◌, length, refl, sym, ◌∙◌, ap, subst, arith, inl, inr, Option, append-nil, length-append}
+use Rattle.std.specs.Io.KnownBytes.{Consumes}
 use Rattle.std.proofs.KnownBytes.{Consumes-nil}
 use Rattle.std.proofs.lemmas.Grind.{flat_map-append}
 use Rattle.httparse.specs.Grammar.{MayBecomeResponse, print_response}
@@ -13,7 +13,7 @@ use Rattle.http_wire.specs.declared.reading.HeadRead.{HeadRead}
 use Rattle.http_wire.specs.declared.reading.HeadRead.TheVariants as read
 use Rattle.http_wire.proofs.MoveLemmas.{moves_then}
 use Rattle.http_wire.proofs.ChunkLemmas.{moves_rest}
-use Rattle.upstream_http.specs.FinalHead.{SpelledHead, AreInterim, heads_text, IsFinalHead, ReadsFinal}
+use Rattle.upstream_http.specs.FinalHead.{SpelledHead, AreInterim, heads_text, ReadsFinal}
 use Rattle.upstream_http.specs.declared.final_head.TheConstants.{INTERIM_MAX, FINAL_MIN}
 use Rattle.upstream_http.specs.declared.final_head.FinalRead.TheVariants as final
 

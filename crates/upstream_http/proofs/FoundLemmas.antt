@@ -1,19 +1,16 @@
 -- Where the bytes to come begin with the head of a final answer, no other reading of them is there.
-use Rattle.std.proofs.Common.{◌≡◌, ℕ, ◌+◌, ◌<◌, ◌≤◌, List, [], ◌∷◌, ◌++◌, length, refl, sym, ◌∙◌, ap, subst, arith, ◌⊎◌, inl, inr, Option, Some, append_assoc, append-nil, length-append}
-use Rattle.std.specs.Io.KnownBytes.{Consumes, IsAtEnd}
+use Rattle.std.proofs.Common.{◌≡◌, ℕ, ◌<◌, ◌≤◌, List, [], ◌∷◌, ◌++◌, length, refl, sym, ◌∙◌, ap, arith, inl, inr, Some, append_assoc, length-append}
 use Rattle.std.proofs.lemmas.List.{append_cancel_left}
 use Rattle.http_wire.specs.Moves.{Moves}
-use Rattle.http_wire.specs.Reading.{FindsHead}
 use Rattle.http_wire.specs.Response.{ResponseParts, SpellsResponse, HasNoResponseHead, IsHopelessResponse}
 use Rattle.httparse.specs.Grammar.{MayBecomeResponse}
-use Rattle.http_wire.specs.declared.reading.HeadRead.{HeadRead}
 use Rattle.http_wire.specs.declared.reading.HeadRead.TheVariants as read
 use Rattle.http_wire.proofs.BodyLemmas.{same_front}
-use Rattle.http_wire.proofs.FoundLemmas.{finds, still_left}
+use Rattle.http_wire.proofs.FoundLemmas.{finds}
 use Rattle.http_wire.proofs.ResponseLemmas.{response_grammar}
-use Rattle.upstream_http.specs.FinalHead.{SpelledHead, AreInterim, heads_text, IsFinalHead, BeginsWith, IsNoHead, IsCutHead, IsBadStart, IsCutStart}
-use Rattle.upstream_http.specs.declared.final_head.TheConstants.{INTERIM_MAX, FINAL_MIN}
-use Rattle.upstream_http.proofs.FinalLemmas.{Reads, size_is}
+use Rattle.upstream_http.specs.FinalHead.{SpelledHead, AreInterim, heads_text, IsFinalHead, IsNoHead, IsCutHead, IsBadStart, IsCutStart}
+use Rattle.upstream_http.specs.declared.final_head.TheConstants.{FINAL_MIN}
+use Rattle.upstream_http.proofs.FinalLemmas.{size_is}
 
 -- two heads at the front of one text
 same_head : (a x b y : List ℕ) (p q : ResponseParts) → SpellsResponse a p → SpellsResponse b q → a ++ x ≡ b ++ y → (q ≡ p) × (x ≡ y)

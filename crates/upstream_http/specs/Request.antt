@@ -1,5 +1,5 @@
 -- Requests of exchanges (RFC 9112, sections 2.1 and 3).
-use Rattle.std.specs.Prelude.{ℕ, List, [], ◌∷◌, ◌++◌, codes, decimal, None, Some}
+use Rattle.std.specs.Prelude.{ℕ, List, [], ◌++◌, codes, decimal, None, Some}
 use Rattle.std.specs.declared.option.Option.{Option}
 use Rattle.targets.specs.declared.endpoint.Endpoint.{Endpoint}
 use Rattle.upstream_gate.specs.declared.ask.Ask.{Ask}

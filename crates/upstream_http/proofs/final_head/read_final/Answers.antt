@@ -1,7 +1,4 @@
-use Rattle.std.proofs.Common.{arith, ◌∙◌, ap, sym, length, ◌≤◌, ◌+◌, ◌<◌, ◌≡◌, subst, [], refl}
-use Rattle.http_wire.specs.declared.limits.TheConstants.{HEAD_MAX}
-use Rattle.upstream_http.specs.FinalHead.{ReadsFinal}
-use Rattle.upstream_http.specs.declared.final_head.FinalRead.TheVariants as final
+use Rattle.std.proofs.Common.{arith, ◌∙◌, ap, length, ◌≤◌, ◌<◌, [], refl}
 use Rattle.upstream_http.specs.declared.final_head.TheConstants.{INTERIM_MAX, FINAL_MIN}
 use Rattle.upstream_http.proofs.FinalLemmas.{begins_empty, one_more, final_is, one_too_many, bad_head, cut_head, no_more, some_came, size_short}
 use Rattle.upstream_http.proofs.final_head.read_final.Goals as goal

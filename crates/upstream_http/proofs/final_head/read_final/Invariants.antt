@@ -1,4 +1,4 @@
-use Rattle.std.proofs.Common.{◌≡◌, ◌≤◌, ◌+◌, ◌*◌, ◌-◌, ℕ, List, [], length}
+use Rattle.std.proofs.Common.{◌≡◌, ◌≤◌, ◌+◌, ◌*◌, ◌-◌, List, [], length}
 use Rattle.http_wire.specs.Moves.{Moves}
 use Rattle.http_wire.specs.declared.limits.TheConstants.{HEAD_MAX}
 use Rattle.upstream_http.specs.FinalHead.{SpelledHead, AreInterim, heads_text}

@@ -1,4 +1,4 @@
-use Rattle.std.proofs.Common.{arith, sym, ◌∙◌, false, ◌<◌, ◌-◌, length}
+use Rattle.std.proofs.Common.{arith, sym, ◌∙◌}
 use Rattle.std.proofs.lemmas.List.Sums.{suffix_len_is}
 use Rattle.upstream_http.specs.List.{is_blank}
 use Rattle.upstream_http.proofs.list.end_of.Goals as goal

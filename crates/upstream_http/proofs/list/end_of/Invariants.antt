@@ -1,4 +1,4 @@
-use Rattle.std.proofs.Common.{◌≡◌, ◌≤◌, ◌<◌, ◌-◌, ℕ, true, length, get_or}
+use Rattle.std.proofs.Common.{◌≡◌, ◌≤◌, ◌<◌, ℕ, true, length, get_or}
 use Rattle.upstream_http.specs.List.{is_blank}
 use Rattle.upstream_http.proofs.list.end_of.Given as goal
 

@@ -2,7 +2,7 @@ use Rattle.std.proofs.Common.{refl, sym, ◌∙◌, ap}
 use Rattle.std.specs.List.{fold, flat_map}
 use Rattle.std.proofs.lemmas.Bool.{false≢true}
 use Rattle.http_wire.proofs.FieldLemmas.{value_kept}
-use Rattle.upstream_http.specs.List.{items_in, items_of}
+use Rattle.upstream_http.specs.List.{items_in}
 use Rattle.upstream_http.proofs.ListLemmas.{told_added}
 use Rattle.upstream_http.proofs.list.told_by.Goals as goal
 use Rattle.upstream_http.proofs.list.told_by.Goals.{then-eq_ignore_ascii_case, else-eq_ignore_ascii_case}

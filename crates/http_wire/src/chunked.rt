@@ -318,8 +318,8 @@ fn gather_chunks<S: Source>(
 /// chunk line and the trailers have at most 16,384 bytes, and a size has at most 16 digits. `BadLength` comes where no
 /// continuation is a chunk line, the end of a chunk or trailers, or one of these bounds is passed, with the number of
 /// all bytes of the body that had come; `TooLarge` where the sizes of the chunks read so far pass the limit, with
-/// `limit + 1`, or 2^64 - 1 where that is more. Where the body is
-/// to come and its content is within the limit, no answer comes but it, `ReadFault` and `Memory`.
+/// `limit + 1`, or 2^64 - 1 where that is more. Where the body is to come and its content is within the limit, no answer
+/// comes but it, `ReadFault` and `Memory`.
 pub fn read_chunked<S: Source>(
     alloc: Global,
     source: &mut S,

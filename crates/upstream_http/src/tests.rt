@@ -68,125 +68,127 @@ fn requests(rt: HostRuntime) -> Result<(), Fail> {
     Ok(())
 }
 
+// what follows `HTTP/1.1 ` in an answer, and the outcome where the limit is 5 bytes
+const CASES: [(&str, &str); 40] = [
+    ("200 OK\r\nContent-Length: 5\r\n\r\nabcdefg", "200 |abcde"),
+    (
+        "404\r\nContent-Type: a/b\r\nContent-Length: 0\r\n\r\n",
+        "404 a/b|",
+    ),
+    (
+        "410 Gone\r\nContent-Length: 03\r\ncontent-length: 3\r\n\r\nabc",
+        "410 |abc",
+    ),
+    (
+        "200 OK\r\nContent-Type: a\r\nContent-Type: a\r\n\r\nabc",
+        "200 |abc",
+    ),
+    (
+        "200 OK\r\nContent-Encoding: Identity\r\n\r\nabc",
+        "200 |abc",
+    ),
+    (
+        "200 OK\r\nTransfer-Encoding: Chunked\r\nContent-Length: 1\r\n\r\n3\r\nabc\r\n0\r\n\r\n",
+        "200 |abc",
+    ),
+    (
+        "200 OK\r\nTransfer-Encoding: chunked\r\n\r\n3\r\nabc\r\n2;x=y\r\nde\r\n0\r\nT: u\r\n\r\n",
+        "200 |abcde",
+    ),
+    ("200 OK\r\n\r\n", "200 |"),
+    (
+        "100 Continue\r\n\r\nHTTP/1.1 103 Hints\r\nLink: x\r\n\r\nHTTP/1.0 200 OK\r\n\r\nabc",
+        "200 |abc",
+    ),
+    (
+        "500 Oh\r\nContent-Length: 1\r\nContent-Length: 2\r\n\r\n",
+        "refused 500",
+    ),
+    ("206 Part\r\nContent-Length: 5\r\n\r\nabcde", "refused 206"),
+    (
+        "200 OK\r\nContent-Encoding: gzip\r\nTransfer-Encoding: gzip\r\n\r\n",
+        "refused 200",
+    ),
+    (
+        "200 OK\r\nContent-Encoding: identity\r\nContent-Encoding: br\r\n\r\n",
+        "refused 200",
+    ),
+    ("200 OK\r\nContent-Length: 6\r\n\r\nabcdef", "too long 6"),
+    (
+        "200 OK\r\nContent-Length: 99999999999999999999\r\n\r\n",
+        "too long 18446744073709551615",
+    ),
+    ("200 OK\r\n\r\nabcdef", "too long 6"),
+    (
+        "200 OK\r\nTransfer-Encoding: chunked\r\n\r\n3\r\nabc\r\n3\r\n",
+        "too long 6",
+    ),
+    (
+        "200 OK\r\nTransfer-Encoding: chunked\r\n\r\nFFFFFFFFFFFFFFFF\r\n",
+        "too long 6",
+    ),
+    (
+        "200 OK\r\nContent-Length: 5\r\nContent-Length: 4\r\n\r\n",
+        "malformed 57",
+    ),
+    ("200 OK\r\nContent-Length: x\r\n\r\n", "malformed 38"),
+    ("200 OK\r\nContent-Length:\r\n\r\n", "malformed 36"),
+    ("200 OK\r\nTransfer-Encoding: gzip\r\n\r\n", "malformed 44"),
+    (
+        "200 OK\r\nTransfer-Encoding: chunked\r\nTransfer-Encoding: chunked\r\n\r\n",
+        "malformed 75",
+    ),
+    (
+        "200 OK\r\nTransfer-Encoding: chunked\r\n\r\ng",
+        "malformed 48",
+    ),
+    (
+        "200 OK\r\nTransfer-Encoding: chunked\r\n\r\n1\r\nab",
+        "malformed 52",
+    ),
+    ("20x OK\r\n\r\n", "malformed"),
+    ("200 OK\r\nA : b\r\n\r\n", "malformed"),
+    ("200 OK\r\nContent-Length: 5\r\n\r\nabc", "cut 41"),
+    (
+        "200 OK\r\nTransfer-Encoding: chunked\r\n\r\n3\r\nab",
+        "cut 52",
+    ),
+    (
+        "200 OK\r\nTransfer-Encoding: chunked\r\n\r\n3\r\nabc\r\n0\r\n",
+        "cut 58",
+    ),
+    ("200 OK\r\nContent-Le", "cut 27"),
+    ("200 OK\r\n\r\nabcde", "200 |abcde"),
+    (
+        "200 OK\r\nContent-Length: 3, 3\r\nContent-Length: 03\r\n\r\nabc",
+        "200 |abc",
+    ),
+    ("200 OK\r\nContent-Length: 3,4\r\n\r\n", "malformed 40"),
+    ("200 OK\r\nContent-Length: 3,\r\n\r\n", "malformed 39"),
+    (
+        "200 OK\r\nTransfer-Encoding: ,\tchunked ,\r\n\r\n0\r\n\r\n",
+        "200 |",
+    ),
+    (
+        "200 OK\r\nTransfer-Encoding: chunked, chunked\r\n\r\n",
+        "malformed 56",
+    ),
+    (
+        "200 OK\r\nTransfer-Encoding:\r\nContent-Length: 0\r\n\r\n",
+        "malformed 58",
+    ),
+    (
+        "200 OK\r\nContent-Encoding: identity , br\r\n\r\n",
+        "refused 200",
+    ),
+    ("100 Continue\r\n\r\n", "cut 25"),
+];
+
 #[test]
 fn answers(rt: HostRuntime) -> Result<(), Fail> {
     let alloc = rt.alloc();
     let ones = vec![in alloc; 1u64; 256]?;
-    let cases: [(&str, &str); 40] = [
-        ("200 OK\r\nContent-Length: 5\r\n\r\nabcdefg", "200 |abcde"),
-        (
-            "404\r\nContent-Type: a/b\r\nContent-Length: 0\r\n\r\n",
-            "404 a/b|",
-        ),
-        (
-            "410 Gone\r\nContent-Length: 03\r\ncontent-length: 3\r\n\r\nabc",
-            "410 |abc",
-        ),
-        (
-            "200 OK\r\nContent-Type: a\r\nContent-Type: a\r\n\r\nabc",
-            "200 |abc",
-        ),
-        (
-            "200 OK\r\nContent-Encoding: Identity\r\n\r\nabc",
-            "200 |abc",
-        ),
-        (
-            "200 OK\r\nTransfer-Encoding: Chunked\r\nContent-Length: 1\r\n\r\n3\r\nabc\r\n0\r\n\r\n",
-            "200 |abc",
-        ),
-        (
-            "200 OK\r\nTransfer-Encoding: chunked\r\n\r\n3\r\nabc\r\n2;x=y\r\nde\r\n0\r\nT: u\r\n\r\n",
-            "200 |abcde",
-        ),
-        ("200 OK\r\n\r\n", "200 |"),
-        (
-            "100 Continue\r\n\r\nHTTP/1.1 103 Hints\r\nLink: x\r\n\r\nHTTP/1.0 200 OK\r\n\r\nabc",
-            "200 |abc",
-        ),
-        (
-            "500 Oh\r\nContent-Length: 1\r\nContent-Length: 2\r\n\r\n",
-            "refused 500",
-        ),
-        ("206 Part\r\nContent-Length: 5\r\n\r\nabcde", "refused 206"),
-        (
-            "200 OK\r\nContent-Encoding: gzip\r\nTransfer-Encoding: gzip\r\n\r\n",
-            "refused 200",
-        ),
-        (
-            "200 OK\r\nContent-Encoding: identity\r\nContent-Encoding: br\r\n\r\n",
-            "refused 200",
-        ),
-        ("200 OK\r\nContent-Length: 6\r\n\r\nabcdef", "too long 6"),
-        (
-            "200 OK\r\nContent-Length: 99999999999999999999\r\n\r\n",
-            "too long 18446744073709551615",
-        ),
-        ("200 OK\r\n\r\nabcdef", "too long 6"),
-        (
-            "200 OK\r\nTransfer-Encoding: chunked\r\n\r\n3\r\nabc\r\n3\r\n",
-            "too long 6",
-        ),
-        (
-            "200 OK\r\nTransfer-Encoding: chunked\r\n\r\nFFFFFFFFFFFFFFFF\r\n",
-            "too long 6",
-        ),
-        (
-            "200 OK\r\nContent-Length: 5\r\nContent-Length: 4\r\n\r\n",
-            "malformed 57",
-        ),
-        ("200 OK\r\nContent-Length: x\r\n\r\n", "malformed 38"),
-        ("200 OK\r\nContent-Length:\r\n\r\n", "malformed 36"),
-        ("200 OK\r\nTransfer-Encoding: gzip\r\n\r\n", "malformed 44"),
-        (
-            "200 OK\r\nTransfer-Encoding: chunked\r\nTransfer-Encoding: chunked\r\n\r\n",
-            "malformed 75",
-        ),
-        (
-            "200 OK\r\nTransfer-Encoding: chunked\r\n\r\ng",
-            "malformed 48",
-        ),
-        (
-            "200 OK\r\nTransfer-Encoding: chunked\r\n\r\n1\r\nab",
-            "malformed 52",
-        ),
-        ("20x OK\r\n\r\n", "malformed"),
-        ("200 OK\r\nA : b\r\n\r\n", "malformed"),
-        ("200 OK\r\nContent-Length: 5\r\n\r\nabc", "cut 41"),
-        (
-            "200 OK\r\nTransfer-Encoding: chunked\r\n\r\n3\r\nab",
-            "cut 52",
-        ),
-        (
-            "200 OK\r\nTransfer-Encoding: chunked\r\n\r\n3\r\nabc\r\n0\r\n",
-            "cut 58",
-        ),
-        ("200 OK\r\nContent-Le", "cut 27"),
-        ("200 OK\r\n\r\nabcde", "200 |abcde"),
-        (
-            "200 OK\r\nContent-Length: 3, 3\r\nContent-Length: 03\r\n\r\nabc",
-            "200 |abc",
-        ),
-        ("200 OK\r\nContent-Length: 3,4\r\n\r\n", "malformed 40"),
-        ("200 OK\r\nContent-Length: 3,\r\n\r\n", "malformed 39"),
-        (
-            "200 OK\r\nTransfer-Encoding: ,\tchunked ,\r\n\r\n0\r\n\r\n",
-            "200 |",
-        ),
-        (
-            "200 OK\r\nTransfer-Encoding: chunked, chunked\r\n\r\n",
-            "malformed 56",
-        ),
-        (
-            "200 OK\r\nTransfer-Encoding:\r\nContent-Length: 0\r\n\r\n",
-            "malformed 58",
-        ),
-        (
-            "200 OK\r\nContent-Encoding: identity , br\r\n\r\n",
-            "refused 200",
-        ),
-        ("100 Continue\r\n\r\n", "cut 25"),
-    ];
-    for (rest, want) in cases {
+    for (rest, want) in CASES {
         let bytes = format!(in alloc; "HTTP/1.1 {rest}")?;
         for gives in [[].as_slice(), ones.as_slice()] {
             let told = exchanged(alloc, bytes.as_bytes(), gives, 5)?;

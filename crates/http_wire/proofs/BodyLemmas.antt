@@ -71,5 +71,5 @@ finds_to_end limit old new before after (body.TooLarge len) reads text come =
 finds_to_end limit old new before after body.ReadFault reads text come = (λ fits. tt, λ large. tt)
 finds_to_end limit old new before after body.Memory reads text come = (λ fits. tt, λ large. tt)
 finds_to_end limit old new before after body.Coded reads text come = absurd reads
-finds_to_end limit old new before after body.BadLength reads text come = absurd reads
+finds_to_end limit old new before after (body.BadLength taken) reads text come = absurd reads
 finds_to_end limit old new before after (body.CutShort taken) reads text come = absurd reads

@@ -61,8 +61,8 @@ content_end line so_far old now new before middle after text longer content (chu
     (content, moves_then old now new before middle after content crlf_bytes m end.0, grown, size, omega (arith, far, end.1))
 content_end line so_far old now new before middle after text longer content (chunk.CutShort taken) m grown size far end =
     (content, moves_rest old now new before middle after content m end.0, end.2, omega (arith, far, end.3, size), inr (size, end.1))
-content_end line so_far old now new before middle after text longer content chunk.BadLength m grown size far end =
-    (content, moves_rest old now new before middle after content m end.0, size, end.1)
+content_end line so_far old now new before middle after text longer content (chunk.BadLength taken) m grown size far end =
+    (content, moves_rest old now new before middle after content m end.0, size, end.1, omega (arith, far, end.2, size))
 content_end line so_far old now new before middle after text longer content chunk.ReadFault m grown size far end = (content, moves_rest old now new before middle after content m end)
 content_end line so_far old now new before middle after text longer content chunk.Memory m grown size far end = (content, moves_rest old now new before middle after content m end)
 content_end line so_far old now new before middle after text longer content (chunk.Last taken) m grown size far end = absurd end
@@ -119,8 +119,12 @@ chunk_behind limit old now new before middle after text longer bytes size (chunk
       c.2,
       omega (arith, c.3, line_length bytes size spells, length-append (print_chunk_line spells.line) c.0),
     )
-chunk_behind limit old now new before middle after text longer bytes size chunk.BadLength m spells some fits within c =
-    (_, moves_line old now new before middle after bytes c.0 size spells m c.1, inr (spells.line, c.0, record { is_line = is_line bytes size spells; some = omega (arith, some, spells.size_is); text = refl }, c.2 ∙ spells.size_is, c.3))
+chunk_behind limit old now new before middle after text longer bytes size (chunk.BadLength taken) m spells some fits within c = (
+  _,
+  moves_line old now new before middle after bytes c.0 size spells m c.1,
+  inr (spells.line, c.0, record { is_line = is_line bytes size spells; some = omega (arith, some, spells.size_is); text = refl }, c.2 ∙ spells.size_is, c.3),
+  omega (arith, c.4, line_length bytes size spells, length-append (print_chunk_line spells.line) c.0),
+)
 chunk_behind limit old now new before middle after text longer bytes size chunk.ReadFault m spells some fits within c = (_, moves_then old now new before middle after bytes c.0 m c.1)
 chunk_behind limit old now new before middle after text longer bytes size chunk.Memory m spells some fits within c = (_, moves_then old now new before middle after bytes c.0 m c.1)
 chunk_behind limit old now new before middle after text longer bytes size (chunk.Last taken) m spells some fits within c = absurd c
@@ -172,11 +176,16 @@ chunks_large limit old now new before middle after bytes content longer m f c = 
   (c.0, content, c.1, follows_rest limit bytes (print_chunk_line c.0) content f, c.3),
 )
 
-pub chunks_bad : (limit : ℕ) (old now new : Option (List ℕ)) (before middle after bytes content longer : List ℕ)
-    → Moves old now before middle bytes → Follows limit bytes [] content → ReadsChunk limit now new middle after content longer chunk.BadLength
-    → (all : List ℕ) × Moves old new before after all × IsBadBody limit all after
-chunks_bad limit old now new before middle after bytes content longer m f c =
-    (_, moves_then old now new before middle after bytes c.0 m c.1, (c.0, content, follows_rest limit bytes c.0 content f, inl c.2))
+pub chunks_bad : (limit taken more : ℕ) (old now new : Option (List ℕ)) (before middle after bytes content longer : List ℕ)
+    → Moves old now before middle bytes → Follows limit bytes [] content → taken ≡ capped (length bytes)
+    → ReadsChunk limit now new middle after content longer (chunk.BadLength more)
+    → (all : List ℕ) × Moves old new before after all × IsBadBody limit all after × (capped (taken + more) ≡ capped (length all + length after))
+chunks_bad limit taken more old now new before middle after bytes content longer m f far c = (
+  _,
+  moves_then old now new before middle after bytes c.0 m c.1,
+  (c.0, content, follows_rest limit bytes c.0 content f, inl c.2),
+  omega (arith, far, c.3, length-append bytes c.0),
+)
 
 pub chunks_cut : (limit taken more : ℕ) (old now new : Option (List ℕ)) (before middle after bytes content longer : List ℕ)
     → Moves old now before middle bytes → Follows limit bytes [] content → taken ≡ capped (length bytes)
@@ -216,9 +225,13 @@ chunks_end limit so_far taken more old now last new before middle later after by
       },
       omega (arith, f.within, ap length (t.4 ∙ c.3)),
     )
-chunks_end limit so_far taken more old now last new before middle later after bytes content longer body.BadLength m f far c sum t =
-    let line = print_chunk_line c.0 in
-    (bytes ++ line, moves_rest old last new before later after (bytes ++ line) (moves_then old now last before middle later bytes line m c.2) t.0, (line, content, follows_rest limit bytes line content f, inr (c.0, c.1, refl, t.1)))
+chunks_end limit so_far taken more old now last new before middle later after bytes content longer (body.BadLength n) m f far c sum t =
+    let line = print_chunk_line c.0 in (
+      bytes ++ line,
+      moves_rest old last new before later after (bytes ++ line) (moves_then old now last before middle later bytes line m c.2) t.0,
+      (line, content, follows_rest limit bytes line content f, inr (c.0, c.1, refl, t.1)),
+      omega (arith, t.2, sum, far, c.4, length-append bytes line),
+    )
 chunks_end limit so_far taken more old now last new before middle later after bytes content longer (body.CutShort n) m f far c sum t =
     let line = print_chunk_line c.0 in (
       bytes ++ line,

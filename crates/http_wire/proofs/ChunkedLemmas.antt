@@ -225,7 +225,7 @@ module _ (limit : ℕ) (old new : Option (List ℕ)) (before after bytes content
   answers (body.TooLarge len) (moved, m, (line, other, l, f, large), e) =
       let more = large_is moved other line m l f large in
       (λ fits. omega (arith, fits, more), λ large. tt)
-  answers body.BadLength (moved, m, bad) = (λ fits. no_bad_body moved m bad, λ large. no_bad_body moved m bad)
+  answers (body.BadLength taken) (moved, m, bad, n) = (λ fits. no_bad_body moved m bad, λ large. no_bad_body moved m bad)
   answers (body.CutShort taken) (moved, m, cut, at_end, n) = (λ fits. no_cut_body moved m at_end cut, λ large. no_cut_body moved m at_end cut)
   answers body.ReadFault reads = (λ fits. tt, λ large. tt)
   answers body.Memory reads = (λ fits. tt, λ large. tt)

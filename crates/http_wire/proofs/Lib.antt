@@ -7,4 +7,5 @@ pub mod HeadLemmas
 pub mod InboxLemmas
 pub mod LimitLemmas
 pub mod MoveLemmas
+pub mod ReadingLemmas
 pub mod ResponseLemmas

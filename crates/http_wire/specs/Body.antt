@@ -67,7 +67,7 @@ ReadsLength count old new before after (body.CutShort taken) =
 ReadsLength count old new before after body.ReadFault = (bytes : List ℕ) × Moves old new before after bytes
 ReadsLength count old new before after body.Memory = (bytes : List ℕ) × Moves old new before after bytes
 ReadsLength count old new before after body.Coded = ⊥
-ReadsLength count old new before after body.BadLength = ⊥
+ReadsLength count old new before after (body.BadLength taken) = ⊥
 ReadsLength count old new before after (body.TooLarge len) = ⊥
 
 -- nothing was read
@@ -77,7 +77,7 @@ IsUntouched old new before after = Keeps old new × (after ≡ before)
 -- where nothing is announced wrong and the length is within the limit, so many bytes are read
 abbrev pub ReadsBody : ℕ → Option (List ℕ) → Option (List ℕ) → List ℕ → List ℕ → Framing → BodyRead → Type 0
 ReadsBody limit old new before after framing.Coded result = (result ≡ body.Coded) × IsUntouched old new before after
-ReadsBody limit old new before after framing.BadLength result = (result ≡ body.BadLength)
+ReadsBody limit old new before after framing.BadLength result = (result ≡ body.BadLength 0)
     × IsUntouched old new before after
 ReadsBody limit old new before after (framing.Length count) result =
     (limit < count → (result ≡ body.TooLarge count) × IsUntouched old new before after)
@@ -89,7 +89,7 @@ IsBodyOrFault text (body.Body other) = other ≡ text
 IsBodyOrFault text body.ReadFault = Unit {0}
 IsBodyOrFault text body.Memory = Unit {0}
 IsBodyOrFault text body.Coded = ⊥
-IsBodyOrFault text body.BadLength = ⊥
+IsBodyOrFault text (body.BadLength taken) = ⊥
 IsBodyOrFault text (body.TooLarge len) = ⊥
 IsBodyOrFault text (body.CutShort taken) = ⊥
 
@@ -120,7 +120,7 @@ ReadsToEnd limit old new before after (body.TooLarge len) =
 ReadsToEnd limit old new before after body.ReadFault = (bytes : List ℕ) × Moves old new before after bytes
 ReadsToEnd limit old new before after body.Memory = (bytes : List ℕ) × Moves old new before after bytes
 ReadsToEnd limit old new before after body.Coded = ⊥
-ReadsToEnd limit old new before after body.BadLength = ⊥
+ReadsToEnd limit old new before after (body.BadLength taken) = ⊥
 ReadsToEnd limit old new before after (body.CutShort taken) = ⊥
 
 -- the answer is that the body is too large, or the source failed, or no memory was found
@@ -130,7 +130,7 @@ IsTooLargeOrFault body.ReadFault = Unit {0}
 IsTooLargeOrFault body.Memory = Unit {0}
 IsTooLargeOrFault (body.Body content) = ⊥
 IsTooLargeOrFault body.Coded = ⊥
-IsTooLargeOrFault body.BadLength = ⊥
+IsTooLargeOrFault (body.BadLength taken) = ⊥
 IsTooLargeOrFault (body.CutShort taken) = ⊥
 
 -- all that is to come is the answer, or that it is above the limit

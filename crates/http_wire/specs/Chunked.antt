@@ -151,8 +151,9 @@ ReadsChunk limit old new before after text longer (chunk.Last taken) =
 ReadsChunk limit old new before after text longer chunk.TooLarge =
     (line : ChunkLine) × IsLine line × Moves old new before after (print_chunk_line line)
     × (limit < length text + chunk_size line)
-ReadsChunk limit old new before after text longer chunk.BadLength =
+ReadsChunk limit old new before after text longer (chunk.BadLength taken) =
     (bytes : List ℕ) × Moves old new before after bytes × IsBadChunk bytes after
+    × (taken ≡ capped (length bytes + length after))
 ReadsChunk limit old new before after text longer (chunk.CutShort taken) =
     (bytes : List ℕ) × Moves old new before after bytes × IsCutChunk bytes after × IsAtEnd new
     × (taken ≡ capped (length bytes + length after))
@@ -191,8 +192,9 @@ ReadsChunked limit old new before after (body.Body content) =
     (bytes : List ℕ) × Moves old new before after bytes × IsChunked bytes content × (length content ≤ limit)
 ReadsChunked limit old new before after (body.TooLarge len) =
     (bytes : List ℕ) × Moves old new before after bytes × IsTooLarge limit bytes × (len ≡ capped (limit + 1))
-ReadsChunked limit old new before after body.BadLength =
+ReadsChunked limit old new before after (body.BadLength taken) =
     (bytes : List ℕ) × Moves old new before after bytes × IsBadBody limit bytes after
+    × (taken ≡ capped (length bytes + length after))
 ReadsChunked limit old new before after (body.CutShort taken) =
     (bytes : List ℕ) × Moves old new before after bytes × IsCutBody limit bytes after × IsAtEnd new
     × (taken ≡ capped (length bytes + length after))
@@ -206,7 +208,8 @@ ReadsEnd so_far old new before after (chunk.Some taken) = Moves old new before a
     × (taken ≡ capped (so_far + 2))
 ReadsEnd so_far old new before after (chunk.CutShort taken) =
     Moves old new before after [] × IsCutEnd after × IsAtEnd new × (taken ≡ capped (so_far + length after))
-ReadsEnd so_far old new before after chunk.BadLength = Moves old new before after [] × IsBadEnd after
+ReadsEnd so_far old new before after (chunk.BadLength taken) = Moves old new before after [] × IsBadEnd after
+    × (taken ≡ capped (so_far + length after))
 ReadsEnd so_far old new before after chunk.ReadFault = Moves old new before after []
 ReadsEnd so_far old new before after chunk.Memory = Moves old new before after []
 ReadsEnd so_far old new before after (chunk.Last taken) = ⊥
@@ -222,8 +225,9 @@ ReadsContent line old new before after text longer (chunk.CutShort taken) =
     (content : List ℕ) × Moves old new before after content × IsAtEnd new
     × (taken ≡ capped (line.taken + length content + length after))
     × (((length content < line.size) × (after ≡ [])) ⊎ ((length content ≡ line.size) × IsCutEnd after))
-ReadsContent line old new before after text longer chunk.BadLength =
+ReadsContent line old new before after text longer (chunk.BadLength taken) =
     (content : List ℕ) × Moves old new before after content × (length content ≡ line.size) × IsBadEnd after
+    × (taken ≡ capped (line.taken + length content + length after))
 ReadsContent line old new before after text longer chunk.ReadFault = (content : List ℕ)
     × Moves old new before after content
 ReadsContent line old new before after text longer chunk.Memory = (content : List ℕ)
@@ -238,7 +242,8 @@ ReadsTrailers so_far text old new before after (body.Body content) =
     × (content ≡ text)
 ReadsTrailers so_far text old new before after (body.CutShort taken) =
     Moves old new before after [] × AreCutTrailers after × IsAtEnd new × (taken ≡ capped (so_far + length after))
-ReadsTrailers so_far text old new before after body.BadLength = Moves old new before after [] × AreBadTrailers after
+ReadsTrailers so_far text old new before after (body.BadLength taken) = Moves old new before after []
+    × AreBadTrailers after × (taken ≡ capped (so_far + length after))
 ReadsTrailers so_far text old new before after body.ReadFault = Moves old new before after []
 ReadsTrailers so_far text old new before after body.Memory = Moves old new before after []
 ReadsTrailers so_far text old new before after (body.TooLarge len) = ⊥

@@ -48,6 +48,13 @@ module _ {H : Type 0} (Spells : List ℕ → H → Type 0) (HasNone IsOpen IsOve
   Tries bytes tried.Never = HasNone bytes × IsOver bytes
   Tries bytes tried.Memory = Unit {0}
 
+  -- the same, where nothing is said of no bytes but that more are to come
+  abbrev pub TriesSome : List ℕ → Tried H → Type 0
+  TriesSome bytes (tried.Whole head size) = Tries bytes (tried.Whole head size)
+  TriesSome bytes tried.More = 0 < length bytes → Tries bytes tried.More
+  TriesSome bytes tried.Never = Tries bytes tried.Never
+  TriesSome bytes tried.Memory = Unit {0}
+
 -- the answer is this head, or the source failed, or no memory was found
 abbrev pub IsHeadOrFault : {H : Type 0} → H → HeadRead H → Type 0
 IsHeadOrFault head (read.Head other) = other ≡ head

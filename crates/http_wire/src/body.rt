@@ -19,8 +19,9 @@ pub enum BodyRead {
     Body(Text),
     /// A Transfer-Encoding is there; nothing was read.
     Coded,
-    /// The length of the body is told in no way that this project reads.
-    BadLength,
+    /// The length of the body is told in no way that this project reads, which was noticed when so many bytes of the
+    /// body had come.
+    BadLength { taken: u64 },
     /// The body is longer than the limit: its announced length in bytes, or one more than the limit.
     TooLarge { len: u64 },
     /// The source ended within the body, after so many bytes of it.
@@ -70,7 +71,7 @@ pub fn body_of<S: Source>(
 {
     match framing_of(head) {
         Framing::Coded => BodyRead::Coded,
-        Framing::BadLength => BodyRead::BadLength,
+        Framing::BadLength => BodyRead::BadLength { taken: 0 },
         Framing::Length(count) => {
             if count > limit {
                 return BodyRead::TooLarge { len: count };

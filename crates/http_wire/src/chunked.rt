@@ -44,7 +44,7 @@ pub(crate) enum ChunkRead {
     // the line of the last chunk, of so many bytes
     Last { taken: u64 },
     TooLarge,
-    BadLength,
+    BadLength { taken: u64 },
     CutShort { taken: u64 },
     ReadFault,
     Memory,
@@ -198,7 +198,7 @@ fn read_chunk<S: Source>(
         }
         HeadRead::Ended => ChunkRead::CutShort { taken: 0 },
         HeadRead::CutShort { taken } => ChunkRead::CutShort { taken },
-        HeadRead::BadHead { .. } => ChunkRead::BadLength,
+        HeadRead::BadHead { taken } => ChunkRead::BadLength { taken },
         HeadRead::ReadFault => ChunkRead::ReadFault,
         HeadRead::Memory => ChunkRead::Memory,
     }
@@ -247,7 +247,9 @@ fn read_end<S: Source>(alloc: Global, source: &mut S, inbox: &mut Inbox, so_far:
         HeadRead::CutShort { taken } => ChunkRead::CutShort {
             taken: so_far.saturating_add(taken),
         },
-        HeadRead::BadHead { .. } => ChunkRead::BadLength,
+        HeadRead::BadHead { taken } => ChunkRead::BadLength {
+            taken: so_far.saturating_add(taken),
+        },
         HeadRead::ReadFault => ChunkRead::ReadFault,
         HeadRead::Memory => ChunkRead::Memory,
     }
@@ -270,7 +272,9 @@ fn read_trailers<S: Source>(
         HeadRead::CutShort { taken } => BodyRead::CutShort {
             taken: so_far.saturating_add(taken),
         },
-        HeadRead::BadHead { .. } => BodyRead::BadLength,
+        HeadRead::BadHead { taken } => BodyRead::BadLength {
+            taken: so_far.saturating_add(taken),
+        },
         HeadRead::ReadFault => BodyRead::ReadFault,
         HeadRead::Memory => BodyRead::Memory,
     }
@@ -298,7 +302,9 @@ fn gather_chunks<S: Source>(
             ChunkRead::TooLarge => return BodyRead::TooLarge {
                 len: limit.saturating_add(1),
             },
-            ChunkRead::BadLength => return BodyRead::BadLength,
+            ChunkRead::BadLength { taken: more } => return BodyRead::BadLength {
+                taken: taken.saturating_add(more),
+            },
             ChunkRead::CutShort { taken: more } => return BodyRead::CutShort {
                 taken: taken.saturating_add(more),
             },
@@ -310,9 +316,10 @@ fn gather_chunks<S: Source>(
 
 /// Reads a chunked body (RFC 9112, section 7.1) whose content has at most `limit` bytes, and drops its trailers. Each
 /// chunk line and the trailers have at most 16,384 bytes, and a size has at most 16 digits. `BadLength` comes where no
-/// continuation is a chunk line, the end of a chunk or trailers, or one of these bounds is passed; `TooLarge` where the
-/// sizes of the chunks read so far pass the limit, with `limit + 1`, or 2^64 - 1 where that is more. Where the body is
-/// to come and its content is within the limit, no answer comes but it, `ReadFault` and `Memory`.
+/// continuation is a chunk line, the end of a chunk or trailers, or one of these bounds is passed, with the number of
+/// all bytes of the body that had come; `TooLarge` where the sizes of the chunks read so far pass the limit, with
+/// `limit + 1`, or 2^64 - 1 where that is more. Where the body is to come and its content is within the limit, no answer
+/// comes but it, `ReadFault` and `Memory`.
 pub fn read_chunked<S: Source>(
     alloc: Global,
     source: &mut S,

@@ -10,7 +10,7 @@ ghost use Rattle.http_wire.specs.declared.limits.TheConstants.{HEAD_MAX};
 
 use crate::fields::{Fields, Found, Header};
 use crate::inbox::Inbox;
-use crate::limits::{FEEDS_MAX, FIELDS_MAX, HEAD_MAX, feeds_in};
+use crate::limits::{FEEDS_MAX, FIELDS_MAX, HEAD_MAX, exceeds_feeds, feeds_in};
 use crate::reading::{HeadForm, HeadRead, Tried, gather_head};
 use edge_base::Source;
 use httparse::Status;
@@ -98,7 +98,7 @@ fn try_head(alloc: Global, bytes: &[u8]) -> Tried<Head>
     match parse_request(bytes, &mut spans) {
         Ok(Status::Complete(found)) => {
             let text = &bytes[..found.len];
-            if feeds_in(text) > FEEDS_MAX {
+            if exceeds_feeds(text) {
                 return Tried::Never;
             }
             match head_of(alloc, text, &found, &spans[..found.headers]) {

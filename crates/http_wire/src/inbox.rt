@@ -122,6 +122,9 @@ fn make_room(bytes: &mut Vec<u8>, from: usize, to: usize) -> Option<(usize, usiz
     ensures room { IfSome result (HasRoom bytes.old.items from to bytes.new.items) }
     ensures kept { IsNone result → bytes.new.items ≡ bytes.old.items }
 {
+    if from == to {
+        return Some((0, 0));
+    }
     if to < bytes.len() {
         return Some((from, to));
     }

@@ -1,7 +1,7 @@
 //! Reading one head.
 
 ghost use Rattle.std.specs.Prelude.{◌≡◌, ℕ, ◌≤◌, List, length, ◌==◌, if◌then◌else◌};
-ghost use Rattle.http_wire.specs.Reading.{ReadsHead, HasHeadCause, Tries};
+ghost use Rattle.http_wire.specs.Reading.{ReadsHead, HasHeadCause, Tries, TriesSome};
 ghost use Rattle.http_wire.specs.declared.limits.TheConstants.{HEAD_MAX};
 
 use crate::inbox::{Filled, Inbox};
@@ -55,6 +55,17 @@ pub(crate) trait HeadForm: Drop {
         ensures { Tries spells has_none is_open is_over bytes.now result };
 }
 
+// the head at the front of the bytes, if it is there whole; no bytes are not looked at
+fn try_some<H: HeadForm>(alloc: Global, bytes: &[u8]) -> Tried<H>
+    requires { length bytes.now ≤ HEAD_MAX }
+    ensures { TriesSome H.spells H.has_none H.is_open H.is_over bytes.now result }
+{
+    if bytes.is_empty() {
+        return Tried::More;
+    }
+    H::try_read(alloc, bytes)
+}
+
 // reads until a head is there, or none can come
 pub(crate) fn gather_head<S: Source, H: HeadForm>(
     alloc: Global,
@@ -66,7 +77,7 @@ pub(crate) fn gather_head<S: Source, H: HeadForm>(
     ensures cause { HasHeadCause (S.faults source.old) (S.faults source.new) result }
 {
     'reads: loop {
-        match H::try_read(alloc, inbox.bytes()) {
+        match try_some(alloc, inbox.bytes()) {
             Tried::Whole(head, size) => {
                 inbox.pass(size);
                 return HeadRead::Head(head);

@@ -26,7 +26,8 @@ returns-in-TooLarge-clause-bytes g c =
 pub returns-in-BadLength-clause-bytes : goal.returns-in-BadLength-clause-bytes
 returns-in-BadLength-clause-bytes g c =
     let far = c.chunks.invariant.so_far in
-    chunks_bad c.args.limit _ _ _ _ _ _ far.0 c.chunks.text.items c.read_chunk.new.text.items far.1 far.2 c.in-BadLength.ensures.bytes
+    let all = chunks_bad c.args.limit c.chunks.taken c.in-BadLength.more _ _ _ _ _ _ far.0 c.chunks.text.items c.read_chunk.new.text.items far.1 far.2 far.3 c.in-BadLength.ensures.bytes in
+    (all.0, all.1, all.2, c.saturating_add-in-BadLength.ensures ∙ all.3)
 
 pub returns-in-CutShort-clause-bytes : goal.returns-in-CutShort-clause-bytes
 returns-in-CutShort-clause-bytes g c =

@@ -1,12 +1,14 @@
-use Rattle.std.proofs.Common.{arith, ap, sym, Err, subst, inr, take}
+use Rattle.std.proofs.Common.{◌∙◌, ap, sym, Err, subst, inr, take}
+use Rattle.std.proofs.lemmas.Bool.{false≢true}
 use Rattle.http_wire.specs.Head.{HeadParts, Spells}
+use Rattle.http_wire.proofs.LimitLemmas.{few_feeds}
 use Rattle.http_wire.proofs.HeadLemmas.{none_with_room, refused, spells_found, long_found}
 use Rattle.http_wire.proofs.head.try_head.Goals as goal
 
-pub returns-then-feeds_in-gt-FEEDS_MAX : goal.returns-then-feeds_in-gt-FEEDS_MAX
-returns-then-feeds_in-gt-FEEDS_MAX c =
+pub returns-then-exceeds_feeds : goal.returns-then-exceeds_feeds
+returns-then-exceeds_feeds c =
     let whole = rw c.in-Ok-Complete.field-0-is at c.in-Ok-Complete.ensures.complete in
-    let long = long_found c.args.bytes.now c.parse_request.new.headers c.in-Ok-Complete.found whole.0 whole.1 (omega (arith, c.if-feeds_in-gt-FEEDS_MAX.true, c.feeds_in.ensures)) in
+    let long = long_found c.args.bytes.now c.parse_request.new.headers c.in-Ok-Complete.found whole.0 whole.1 (c.exceeds_feeds.ensures.0 c.if-exceeds_feeds.true) in
     (long.0, inr long.1)
 
 pub returns-in-Ok : goal.returns-in-Ok
@@ -15,7 +17,7 @@ returns-in-Ok c =
     let within = rw c.in-Ok-Complete.field-0-is at c.in-Ok-Complete.ensures.within in (
       within.section.len_fits,
       subst (λ (parts : HeadParts). Spells (take c.in-Ok-Complete.found.len c.args.bytes.now) parts) (sym c.in-Ok.ensures)
-          (spells_found c.args.bytes.now c.parse_request.new.headers c.in-Ok-Complete.found whole.0 whole.1 within (omega (arith, c.if-feeds_in-gt-FEEDS_MAX.false, c.feeds_in.ensures)) c.requires),
+          (spells_found c.args.bytes.now c.parse_request.new.headers c.in-Ok-Complete.found whole.0 whole.1 within (few_feeds _ (λ many. false≢true (sym c.if-exceeds_feeds.false ∙ c.exceeds_feeds.ensures.1 many))) c.requires),
     )
 
 pub returns-in-Err : goal.returns-in-Err

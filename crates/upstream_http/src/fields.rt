@@ -1,0 +1,150 @@
+//! What the header fields of an answer tell of its body (RFC 9110, section 8, and RFC 9112, section 6).
+
+ghost use Rattle.std.specs.Prelude.{◌≡◌, IfOk, codes};
+ghost use Rattle.upstream_http.specs.List.{items_of};
+ghost use Rattle.upstream_http.specs.Fields.{is_word, transfer_of, only_chunked, framing_of, is_no_coding, are_identity, kind_in, kind_of};
+
+use crate::list::{Told, told_by};
+use byte_range::number_of;
+use cdni_base::{Text, TypeName};
+use http_wire::{Found, ResponseHead};
+use std::alloc::{AllocError, Global};
+
+// how the end of a body is told
+#[derive(Clone, Copy, Debug, PartialEq, Eq)]
+pub(crate) enum Framing {
+    // by its last chunk
+    Chunked,
+    // by its length in bytes
+    Length(u64),
+    // by the end of the source
+    ToEnd,
+    // in no way that this project reads
+    Wrong,
+}
+
+// the transfer codings (RFC 9112, section 7)
+#[derive(Clone, Copy, Debug, PartialEq, Eq)]
+pub(crate) enum Transfer {
+    // none
+    None,
+    // chunked, once
+    Chunked,
+    // others
+    Other,
+}
+
+impl Told for Framing {
+    ghost use Rattle.upstream_http.specs.Fields.{after_length};
+
+    ghost after = { after_length };
+
+    // with the next length that is announced
+    fn with(self, item: &[u8]) -> Framing {
+        match (self, number_of(item)) {
+            (Framing::ToEnd, Some(count)) => Framing::Length(count),
+            (Framing::Length(count), Some(other)) if count == other => Framing::Length(count),
+            _ => Framing::Wrong,
+        }
+    }
+}
+
+impl Told for Transfer {
+    ghost use Rattle.upstream_http.specs.Fields.{after_transfer};
+
+    ghost after = { after_transfer };
+
+    // with the next coding, where it is not empty
+    fn with(self, item: &[u8]) -> Transfer {
+        if item.is_empty() {
+            return self;
+        }
+        match self {
+            Transfer::None => transfer_of(item),
+            _ => Transfer::Other,
+        }
+    }
+}
+
+impl Told for bool {
+    ghost use Rattle.std.specs.Prelude.{◌&&◌};
+    ghost use Rattle.upstream_http.specs.Fields.{is_no_coding};
+
+    ghost after = { λ told item. told && is_no_coding item };
+
+    // whether the next one is no coding either
+    fn with(self, item: &[u8]) -> bool {
+        self && is_no_coding(item)
+    }
+}
+
+// how the end of the body is told: by Transfer-Encoding, else by Content-Length, else by the end of the source
+pub(crate) fn framing_of(head: &ResponseHead) -> Framing
+    ensures { result ≡ framing_of head.now.headers }
+{
+    match head.value(b"transfer-encoding") {
+        Found::None => told_by(head, b"content-length", Framing::ToEnd),
+        _ => only_chunked(told_by(head, b"transfer-encoding", Transfer::None)),
+    }
+}
+
+fn only_chunked(transfer: Transfer) -> Framing
+    ensures { result ≡ only_chunked transfer }
+{
+    match transfer {
+        Transfer::Chunked => Framing::Chunked,
+        _ => Framing::Wrong,
+    }
+}
+
+// which coding this word names
+fn transfer_of(word: &[u8]) -> Transfer
+    ensures { result ≡ transfer_of word.now }
+{
+    if is_word(b"chunked", word) {
+        Transfer::Chunked
+    } else {
+        Transfer::Other
+    }
+}
+
+// whether no Content-Encoding names another coding than identity
+pub(crate) fn is_identity(head: &ResponseHead) -> bool
+    ensures { result ≡ are_identity (items_of (codes "content-encoding") head.now.headers) }
+{
+    told_by(head, b"content-encoding", true)
+}
+
+// whether this item is empty or identity
+fn is_no_coding(item: &[u8]) -> bool
+    ensures { result ≡ is_no_coding item.now }
+{
+    item.is_empty() || is_word(b"identity", item)
+}
+
+// whether both are the same word, in any case
+fn is_word(word: &[u8], text: &[u8]) -> bool
+    ensures { result ≡ is_word word.now text.now }
+{
+    text.eq_ignore_ascii_case(word)
+}
+
+// the content type, empty where it is repeated or longer than 127 bytes
+pub(crate) fn kind_of(alloc: Global, head: &ResponseHead) -> Result<TypeName, AllocError>
+    ensures { IfOk result (λ kind. kind ≡ kind_of head.now.headers) }
+{
+    match head.value(b"content-type") {
+        Found::One(value) => kind_in(alloc, value),
+        _ => kind_in(alloc, b""),
+    }
+}
+
+// the name, or the empty one where it is longer than 127 bytes
+fn kind_in(alloc: Global, value: &[u8]) -> Result<TypeName, AllocError>
+    ensures { IfOk result (λ kind. kind ≡ kind_in value.now) }
+{
+    match TypeName::of(alloc, value)? {
+        Some(kind) => Ok(kind),
+        None => Ok(TypeName(Text::of(alloc, b"")?)),
+    }
+}

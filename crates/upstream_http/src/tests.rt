@@ -1,0 +1,298 @@
+// What no clause says: that an exchange succeeds where there is memory, on answers written out in full.
+use crate::exchange;
+use cdni_base::{Endpoint, Text};
+use edge_base::{MemorySink, MemorySource};
+use std::alloc::Global;
+use std::test::Fail;
+use upstream_gate::{Ask, Outcome};
+
+fn ask_of(alloc: Global, endpoint: &[u8]) -> Result<Ask, Fail> {
+    match Endpoint::read(alloc, endpoint) {
+        Ok(endpoint) => Ok(Ask {
+            endpoint,
+            target: Text::of(alloc, b"/a?b")?,
+        }),
+        Err(_) => Err(Fail::from("an endpoint")),
+    }
+}
+
+// an outcome in words
+fn told(alloc: Global, outcome: &Outcome) -> Result<String, Fail> {
+    Ok(match outcome {
+        Outcome::Got(got) => {
+            let mut text = format!(in alloc; "{} ", got.status())?;
+            for byte in got.kind().bytes() {
+                text.push(*byte as char)?;
+            }
+            text.push('|')?;
+            for byte in got.body().bytes() {
+                text.push(*byte as char)?;
+            }
+            text
+        }
+        Outcome::Refused { status } => format!(in alloc; "refused {status}")?,
+        Outcome::TooLong { length } => format!(in alloc; "too long {length}")?,
+        Outcome::Malformed { taken } => format!(in alloc; "malformed {taken}")?,
+        Outcome::Cut { taken } => format!(in alloc; "cut {taken}")?,
+        Outcome::Failed => format!(in alloc; "failed")?,
+        Outcome::Memory => format!(in alloc; "memory")?,
+    })
+}
+
+// the outcome of an exchange with a source of these bytes, in words
+fn exchanged(alloc: Global, bytes: &[u8], gives: &[u64], limit: u64) -> Result<String, Fail> {
+    let mut source = MemorySource::new(alloc, bytes, gives)?;
+    let mut sink = MemorySink::new(alloc, &[])?;
+    let ask = ask_of(alloc, b"v.example")?;
+    let outcome = exchange(alloc, &mut source, &mut sink, &ask, limit);
+    told(alloc, &outcome)
+}
+
+#[test]
+fn requests(rt: HostRuntime) -> Result<(), Fail> {
+    let alloc = rt.alloc();
+    for (endpoint, host) in [
+        (b"v.example".as_slice(), "v.example"),
+        (b"v.example:8080".as_slice(), "v.example:8080"),
+        (b"[::1]:1".as_slice(), "[::1]:1"),
+    ] {
+        let mut source = MemorySource::new(alloc, b"", &[])?;
+        let mut sink = MemorySink::new(alloc, &[1, 2, 3])?;
+        let ask = ask_of(alloc, endpoint)?;
+        let outcome = exchange(alloc, &mut source, &mut sink, &ask, 9);
+        assert!(rt; matches!(outcome, Outcome::Cut { taken: 0 }));
+        let lines = "Accept-Encoding: identity\r\nConnection: close\r\n\r\n";
+        let want = format!(in alloc; "GET /a?b HTTP/1.1\r\nHost: {host}\r\n{lines}")?;
+        assert_eq!(rt; sink.held(), want.as_bytes());
+    }
+    Ok(())
+}
+
+// what follows `HTTP/1.1 ` in an answer, and the outcome where the limit is 5 bytes
+const CASES: [(&str, &str); 40] = [
+    ("200 OK\r\nContent-Length: 5\r\n\r\nabcdefg", "200 |abcde"),
+    (
+        "404\r\nContent-Type: a/b\r\nContent-Length: 0\r\n\r\n",
+        "404 a/b|",
+    ),
+    (
+        "410 Gone\r\nContent-Length: 03\r\ncontent-length: 3\r\n\r\nabc",
+        "410 |abc",
+    ),
+    (
+        "200 OK\r\nContent-Type: a\r\nContent-Type: a\r\n\r\nabc",
+        "200 |abc",
+    ),
+    (
+        "200 OK\r\nContent-Encoding: Identity\r\n\r\nabc",
+        "200 |abc",
+    ),
+    (
+        "200 OK\r\nTransfer-Encoding: Chunked\r\nContent-Length: 1\r\n\r\n3\r\nabc\r\n0\r\n\r\n",
+        "200 |abc",
+    ),
+    (
+        "200 OK\r\nTransfer-Encoding: chunked\r\n\r\n3\r\nabc\r\n2;x=y\r\nde\r\n0\r\nT: u\r\n\r\n",
+        "200 |abcde",
+    ),
+    ("200 OK\r\n\r\n", "200 |"),
+    (
+        "100 Continue\r\n\r\nHTTP/1.1 103 Hints\r\nLink: x\r\n\r\nHTTP/1.0 200 OK\r\n\r\nabc",
+        "200 |abc",
+    ),
+    (
+        "500 Oh\r\nContent-Length: 1\r\nContent-Length: 2\r\n\r\n",
+        "refused 500",
+    ),
+    ("206 Part\r\nContent-Length: 5\r\n\r\nabcde", "refused 206"),
+    (
+        "200 OK\r\nContent-Encoding: gzip\r\nTransfer-Encoding: gzip\r\n\r\n",
+        "refused 200",
+    ),
+    (
+        "200 OK\r\nContent-Encoding: identity\r\nContent-Encoding: br\r\n\r\n",
+        "refused 200",
+    ),
+    ("200 OK\r\nContent-Length: 6\r\n\r\nabcdef", "too long 6"),
+    (
+        "200 OK\r\nContent-Length: 99999999999999999999\r\n\r\n",
+        "too long 18446744073709551615",
+    ),
+    ("200 OK\r\n\r\nabcdef", "too long 6"),
+    (
+        "200 OK\r\nTransfer-Encoding: chunked\r\n\r\n3\r\nabc\r\n3\r\n",
+        "too long 6",
+    ),
+    (
+        "200 OK\r\nTransfer-Encoding: chunked\r\n\r\nFFFFFFFFFFFFFFFF\r\n",
+        "too long 6",
+    ),
+    (
+        "200 OK\r\nContent-Length: 5\r\nContent-Length: 4\r\n\r\n",
+        "malformed 57",
+    ),
+    ("200 OK\r\nContent-Length: x\r\n\r\n", "malformed 38"),
+    ("200 OK\r\nContent-Length:\r\n\r\n", "malformed 36"),
+    ("200 OK\r\nTransfer-Encoding: gzip\r\n\r\n", "malformed 44"),
+    (
+        "200 OK\r\nTransfer-Encoding: chunked\r\nTransfer-Encoding: chunked\r\n\r\n",
+        "malformed 75",
+    ),
+    (
+        "200 OK\r\nTransfer-Encoding: chunked\r\n\r\ng",
+        "malformed 48",
+    ),
+    (
+        "200 OK\r\nTransfer-Encoding: chunked\r\n\r\n1\r\nab",
+        "malformed 52",
+    ),
+    ("20x OK\r\n\r\n", "malformed"),
+    ("200 OK\r\nA : b\r\n\r\n", "malformed"),
+    ("200 OK\r\nContent-Length: 5\r\n\r\nabc", "cut 41"),
+    (
+        "200 OK\r\nTransfer-Encoding: chunked\r\n\r\n3\r\nab",
+        "cut 52",
+    ),
+    (
+        "200 OK\r\nTransfer-Encoding: chunked\r\n\r\n3\r\nabc\r\n0\r\n",
+        "cut 58",
+    ),
+    ("200 OK\r\nContent-Le", "cut 27"),
+    ("200 OK\r\n\r\nabcde", "200 |abcde"),
+    (
+        "200 OK\r\nContent-Length: 3, 3\r\nContent-Length: 03\r\n\r\nabc",
+        "200 |abc",
+    ),
+    ("200 OK\r\nContent-Length: 3,4\r\n\r\n", "malformed 40"),
+    ("200 OK\r\nContent-Length: 3,\r\n\r\n", "malformed 39"),
+    (
+        "200 OK\r\nTransfer-Encoding: ,\tchunked ,\r\n\r\n0\r\n\r\n",
+        "200 |",
+    ),
+    (
+        "200 OK\r\nTransfer-Encoding: chunked, chunked\r\n\r\n",
+        "malformed 56",
+    ),
+    (
+        "200 OK\r\nTransfer-Encoding:\r\nContent-Length: 0\r\n\r\n",
+        "malformed 58",
+    ),
+    (
+        "200 OK\r\nContent-Encoding: identity , br\r\n\r\n",
+        "refused 200",
+    ),
+    ("100 Continue\r\n\r\n", "cut 25"),
+];
+
+#[test]
+fn answers(rt: HostRuntime) -> Result<(), Fail> {
+    let alloc = rt.alloc();
+    let ones = vec![in alloc; 1u64; 256]?;
+    for (rest, want) in CASES {
+        let bytes = format!(in alloc; "HTTP/1.1 {rest}")?;
+        for gives in [[].as_slice(), ones.as_slice()] {
+            let told = exchanged(alloc, bytes.as_bytes(), gives, 5)?;
+            let same = if want == "malformed" {
+                told.as_str().starts_with("malformed ")
+            } else {
+                told.as_str() == want
+            };
+            assert!(rt; same, "{bytes}: {told}");
+        }
+    }
+    Ok(())
+}
+
+#[test]
+fn interim_answers(rt: HostRuntime) -> Result<(), Fail> {
+    let alloc = rt.alloc();
+    for (count, want) in [(16, "200 |abc"), (17, "malformed 432")] {
+        let mut bytes = Vec::new(alloc);
+        for _ in 0..count {
+            bytes.extend_from_slice(b"HTTP/1.1 102 P\r\nA:b\r\n\r\n")?;
+        }
+        bytes.extend_from_slice(b"HTTP/1.1 200 OK\r\nContent-Length: 3\r\n\r\nabc")?;
+        let told = exchanged(alloc, &bytes, &[], 5)?;
+        assert_eq!(rt; told.as_str(), want);
+    }
+    Ok(())
+}
+
+#[test]
+fn limits_of_bodies(rt: HostRuntime) -> Result<(), Fail> {
+    let alloc = rt.alloc();
+    for (limit, length, want) in [
+        (16_777_216, 16_777_217, "too long 16777217"),
+        (u64::MAX, 16_777_217, "too long 16777217"),
+        (u64::MAX, u64::MAX, "too long 18446744073709551615"),
+        (0, 0, "200 |"),
+        (0, 1, "too long 1"),
+    ] {
+        let bytes = format!(in alloc; "HTTP/1.1 200 OK\r\nContent-Length: {length}\r\n\r\n")?;
+        let told = exchanged(alloc, bytes.as_bytes(), &[], limit)?;
+        assert_eq!(rt; told.as_str(), want);
+    }
+    Ok(())
+}
+
+// an answer that reaches to the end, whose body has so many bytes
+fn long_answer(alloc: Global, length: usize, limit: u64) -> Result<Outcome, Fail> {
+    let mut bytes = Vec::from_slice(alloc, b"HTTP/1.1 200 OK\r\n\r\n")?;
+    bytes.extend_from_slice(&vec![in alloc; 7u8; length]?)?;
+    let mut source = MemorySource::new(alloc, &bytes, &[])?;
+    let mut sink = MemorySink::new(alloc, &[])?;
+    let ask = ask_of(alloc, b"v.example")?;
+    Ok(exchange(alloc, &mut source, &mut sink, &ask, limit))
+}
+
+#[test]
+fn the_longest_bodies(rt: HostRuntime) -> Result<(), Fail> {
+    let alloc = rt.alloc();
+    let outcome = long_answer(alloc, 16_777_216, u64::MAX)?;
+    assert!(rt; matches!(outcome, Outcome::Got(_)));
+    let outcome = long_answer(alloc, 16_777_217, u64::MAX)?;
+    assert!(rt; matches!(outcome, Outcome::TooLong { length: 16_777_217 }));
+    Ok(())
+}
+
+#[test]
+fn limits_of_heads(rt: HostRuntime) -> Result<(), Fail> {
+    let alloc = rt.alloc();
+    for (fill, fields, whole) in [
+        (16_367, 0, true),
+        (16_368, 0, false),
+        (1, 64, true),
+        (1, 65, false),
+    ] {
+        let mut bytes = Vec::from_slice(alloc, b"HTTP/1.1 200 ")?;
+        bytes.extend_from_slice(&vec![in alloc; 120u8; fill]?)?;
+        bytes.extend_from_slice(b"\r\n")?;
+        for _ in 0..fields {
+            bytes.extend_from_slice(b"a:\n")?;
+        }
+        bytes.extend_from_slice(b"\r\n")?;
+        let told = exchanged(alloc, &bytes, &[], 5)?;
+        assert_eq!(rt; told.as_str() == "200 |", whole, "{fill} {fields}: {told}");
+        assert_eq!(rt; told.as_str().starts_with("malformed "), !whole);
+    }
+    Ok(())
+}
+
+#[test]
+fn faults_at_each_call(rt: HostRuntime) -> Result<(), Fail> {
+    let alloc = rt.alloc();
+    let bytes = b"HTTP/1.1 200 OK\r\nContent-Length: 5\r\n\r\nabcde";
+    let ask = ask_of(alloc, b"v.example")?;
+    for good in [0usize, 1, 20, 40, 42] {
+        let mut gives = vec![in alloc; 1u64; good]?;
+        gives.push(0)?;
+        let told = exchanged(alloc, bytes, &gives, 5)?;
+        assert_eq!(rt; told.as_str(), "failed");
+        let mut source = MemorySource::new(alloc, bytes, &[])?;
+        let mut sink = MemorySink::new(alloc, &gives)?;
+        let outcome = exchange(alloc, &mut source, &mut sink, &ask, 5);
+        assert!(rt; matches!(outcome, Outcome::Failed));
+        assert_eq!(rt; sink.held().len(), good);
+    }
+    Ok(())
+}

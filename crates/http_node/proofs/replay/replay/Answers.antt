@@ -1,5 +1,4 @@
 use Rattle.std.proofs.Common.{[], ap, subst}
-
 use Rattle.http_node.proofs.ReplayLemmas.{replay_unstarted, replay_unstarted_reads}
 use Rattle.node_core.specs.Node.{Stands}
 use Rattle.replay_script.specs.Script.{made_with}

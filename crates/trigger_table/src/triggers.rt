@@ -1,0 +1,3 @@
+//! The triggers that are not deleted.
+
+pub struct Triggers;

@@ -1,5 +1,5 @@
 -- One trigger: its next step, what a step changes, and the errors that are entered.
-use Rattle.std.specs.Prelude.{ℕ, ◌+◌, ◌-◌, ◌≤◌, Bool, true, false, nat_lt, ◌==◌, ◌&&◌, List, length, None, Some, if◌then◌else◌}
+use Rattle.std.specs.Prelude.{ℕ, ◌+◌, ◌-◌, ◌<◌, ◌≤◌, Bool, true, false, nat_lt, ◌==◌, ◌&&◌, List, length, None, Some, if◌then◌else◌}
 use Rattle.std.specs.Option.{option_map}
 use Rattle.std.specs.declared.option.Option.{Option}
 use Rattle.trigger_command.specs.declared.spec.TheConstants.{SELECTION_MAX}
@@ -34,10 +34,14 @@ abbrev pub open_errors : Option Awaited → ℕ
 open_errors (Some (OneFetch number)) = 1
 open_errors awaited = 0
 
+-- how many steps fetch something
+abbrev pub step_count : Trigger → ℕ
+step_count t = history.metadata_steps t.job.spec.selection.metadata_urls + length t.job.spec.selection.content_urls
+
 -- no more errors than content URLs that were tried, and no more of these than there are
 pub record IsBounded (t : Trigger) : Type 0 where
   pub errors : length t.job.econtent + open_errors t.awaited ≤ history.url_place t
-  pub tried : t.steps ≤ history.metadata_steps t.job.spec.selection.metadata_urls + length t.job.spec.selection.content_urls
+  pub tried : t.steps ≤ step_count t
   pub few : length t.job.spec.selection.content_urls ≤ SELECTION_MAX
 
 -- ---- its next step
@@ -55,6 +59,12 @@ seen (history.Ends status) = step.End status
 abbrev pub next_step : ℕ → Option Trigger → Step
 next_step pass None = step.Unknown
 next_step pass (Some trigger) = seen (history.step_of pass trigger)
+
+-- a step that has a turn: the trigger has not made all
+abbrev pub HasTurn : Step → Trigger → Type 0
+HasTurn step.Refresh trigger = trigger.steps < step_count trigger
+HasTurn (step.Url place) trigger = trigger.steps < step_count trigger
+HasTurn other trigger = Unit {0}
 
 -- ---- what changes
 

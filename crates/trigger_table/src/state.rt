@@ -1,6 +1,6 @@
 //! One trigger.
 
-ghost use Rattle.std.specs.Prelude.{◌≡◌, ◌≤◌, length, IfOk};
+ghost use Rattle.std.specs.Prelude.{◌≡◌, ◌<◌, ◌≤◌, None, length, IfOk};
 ghost use Rattle.trigger_command.specs.declared.spec.TheConstants.{SELECTION_MAX};
 ghost use Rattle.history.specs.Steps.{metadata_steps};
 
@@ -54,7 +54,8 @@ impl Model for TriggerState {
 impl TriggerState {
     ghost use Rattle.history.specs.After.{commanded};
     ghost use Rattle.history.specs.Steps.{active_step, cancelled_from, claimed_step, ended, ends_as, free_step, own_step, started, step_of, url_place, with_status};
-    ghost use Rattle.trigger_table.specs.State.{cancelled_status, last_of, opened_by, seen, step_ended, step_made};
+    ghost use Rattle.history.specs.Steps.{fetched, refreshed};
+    ghost use Rattle.trigger_table.specs.State.{cancelled_status, entered_at, last_of, opened_by, seen, step_ended, step_made, stepped, HasTurn};
 
     /// A trigger that was just commanded.
     ///
@@ -95,7 +96,8 @@ impl TriggerState {
 
     /// The step that this pass would make.
     pub fn next_step(&self, pass: u32) -> Step
-        ensures { result ≡ seen (step_of pass self.now) }
+        ensures value { result ≡ seen (step_of pass self.now) }
+        ensures turn { HasTurn result self.now }
     {
         match self.job.status {
             JobStatus::Complete | JobStatus::Failed | JobStatus::Cancelled => {
@@ -107,7 +109,8 @@ impl TriggerState {
 
     // that of one that has not ended
     fn claimed_step(&self, pass: u32) -> Step
-        ensures { result ≡ seen (claimed_step pass self.now self.now.claimant) }
+        ensures value { result ≡ seen (claimed_step pass self.now self.now.claimant) }
+        ensures turn { HasTurn result self.now }
     {
         match self.claimant {
             Some(claimant) if claimant != pass => Step::Claimed(claimant),
@@ -117,7 +120,8 @@ impl TriggerState {
 
     // that of one which no other pass made active
     fn own_step(&self) -> Step
-        ensures { result ≡ seen (own_step self.now self.now.awaited) }
+        ensures value { result ≡ seen (own_step self.now self.now.awaited) }
+        ensures turn { HasTurn result self.now }
     {
         match self.opened {
             Some(Opened::Fetch(number)) => Step::StepOpen(number),
@@ -128,7 +132,8 @@ impl TriggerState {
 
     // that of one which waits for nothing
     fn free_step(&self) -> Step
-        ensures { result ≡ seen (free_step self.now.job.status self.now) }
+        ensures value { result ≡ seen (free_step self.now.job.status self.now) }
+        ensures turn { HasTurn result self.now }
     {
         match self.job.status {
             JobStatus::Pending => Step::Start,
@@ -140,7 +145,8 @@ impl TriggerState {
 
     // that of one which is active
     fn active_step(&self) -> Step
-        ensures { result ≡ seen (active_step self.now.job.spec.kind self.now) }
+        ensures value { result ≡ seen (active_step self.now.job.spec.kind self.now) }
+        ensures turn { HasTurn result self.now }
     {
         match kind_of(&self.job.spec) {
             TriggerKind::Invalidate | TriggerKind::Purge => Step::End(JobStatus::Complete),
@@ -150,7 +156,8 @@ impl TriggerState {
 
     // that of a preposition which is active
     fn preposition_step(&self) -> Step
-        ensures { result ≡ seen (active_step TriggerKind.Preposition self.now) }
+        ensures value { result ≡ seen (active_step TriggerKind.Preposition self.now) }
+        ensures turn { HasTurn result self.now }
     {
         if self.steps < metadata_steps(&self.job.spec) {
             return Step::Refresh;
@@ -178,6 +185,126 @@ impl TriggerState {
             JobStatus::Failed
         } else {
             JobStatus::Complete
+        }
+    }
+
+    /// The next step of this pass is done at this moment: it has become active, has made one step more, or has ended.
+    pub fn step_done(&mut self, pass: u32, moment: Moment)
+        ensures after { self.new ≡ step_made pass moment self.old }
+        ensures id { self.new.job.id ≡ self.old.job.id }
+    {
+        match self.next_step(pass) {
+            Step::Start => self.start(pass, moment),
+            Step::Refresh | Step::Url(_) => self.steps += 1,
+            Step::End(status) => self.end(status, moment),
+            Step::Unknown | Step::Final(_) | Step::Claimed(_) | Step::StepOpen(_) => {}
+        }
+    }
+
+    /// The last step has opened the fetch or the refresh of this number.
+    pub fn step_opened(&mut self, number: u64)
+        ensures after { self.new ≡ opened_by number self.old }
+        ensures id { self.new.job.id ≡ self.old.job.id }
+    {
+        match self.last_step() {
+            LastStep::Metadata => self.opened = Some(Opened::Refresh(number)),
+            LastStep::Url => self.opened = Some(Opened::Fetch(number)),
+            LastStep::Other => {}
+        }
+    }
+
+    /// What the last step opened has ended, if it opened something. Where it was not good, an error is entered. It takes
+    /// no memory.
+    pub fn step_ended(&mut self, good: bool)
+        ensures after { self.new ≡ step_ended good self.old }
+        ensures id { self.new.job.id ≡ self.old.job.id }
+    {
+        match self.opened {
+            Some(Opened::Fetch(_)) => self.fetch_ended(good),
+            Some(Opened::Refresh(_)) => self.refresh_ended(good),
+            None => self.skip(good),
+        }
+    }
+
+    /// It is cancelled at this moment: at once where it is pending, and with its next step where it is active.
+    pub fn cancel(&mut self, moment: Moment)
+        ensures after { self.new ≡ cancelled_from moment self.old.job.status self.old }
+        ensures id { self.new.job.id ≡ self.old.job.id }
+    {
+        match self.job.status {
+            JobStatus::Pending => self.set_status(JobStatus::Cancelled, moment),
+            JobStatus::Active => self.set_status(JobStatus::Cancelling, moment),
+            _ => {}
+        }
+    }
+
+    // a pass made it active
+    fn start(&mut self, pass: u32, moment: Moment)
+        ensures { self.new ≡ started pass moment self.old }
+    {
+        self.set_status(JobStatus::Active, moment);
+        self.claimant = Some(pass);
+    }
+
+    // it has ended so, unless it had ended before
+    fn end(&mut self, status: JobStatus, moment: Moment)
+        ensures { self.new ≡ ended moment status self.old }
+    {
+        match self.job.status {
+            JobStatus::Complete | JobStatus::Failed | JobStatus::Cancelled => {}
+            _ => self.set_status(status, moment),
+        }
+    }
+
+    // the last step, as far as it may still fail
+    fn last_step(&self) -> LastStep
+        ensures { result ≡ last_of self.now }
+    {
+        let place = self.url_place();
+        if self.job.econtent.len() < place as usize {
+            LastStep::Url
+        } else if self.steps > 0 && place == 0 {
+            LastStep::Metadata
+        } else {
+            LastStep::Other
+        }
+    }
+
+    // the fetch of its last step brought its content, or did not
+    fn fetch_ended(&mut self, good: bool)
+        requires { length self.old.job.econtent < url_place self.old }
+        ensures { self.new ≡ fetched good self.old }
+    {
+        if !good {
+            let place = self.url_place();
+            url_count(&self.job.spec);
+            self.job.econtent.push_reserved(place - 1);
+        }
+        self.opened = None;
+    }
+
+    // the refresh of its first step installed its metadata, or did not
+    fn refresh_ended(&mut self, good: bool)
+        ensures { self.new ≡ refreshed good self.old }
+    {
+        if !good {
+            self.job.emeta = true;
+        }
+        self.opened = None;
+    }
+
+    // nothing is open: its last step was skipped, unless it was good
+    fn skip(&mut self, good: bool)
+        requires { self.old.awaited ≡ None }
+        ensures { self.new ≡ step_ended good self.old }
+    {
+        if good {
+            return;
+        }
+        match self.last_step() {
+            LastStep::Metadata => self.refresh_ended(false),
+            LastStep::Url => self.fetch_ended(false),
+            LastStep::Other => {}
         }
     }
 

@@ -120,7 +120,11 @@ ended_at false None trigger = entered_at (last_of trigger) trigger
 abbrev pub step_ended : Bool → Trigger → Trigger
 step_ended good trigger = ended_at good trigger.awaited trigger
 
--- the status after a cancel
+-- a cancel
+abbrev pub cancel_of : ℕ → Trigger → Trigger
+cancel_of moment trigger = history.cancelled_from moment trigger.job.status trigger
+
+-- the status after it
 abbrev pub cancelled_status : JobStatus → JobStatus
 cancelled_status status.Pending = status.Cancelled
 cancelled_status status.Active = status.Cancelling

@@ -53,9 +53,9 @@ impl Model for TriggerState {
 
 impl TriggerState {
     ghost use Rattle.history.specs.After.{commanded};
-    ghost use Rattle.history.specs.Steps.{active_step, cancelled_from, claimed_step, ended, ends_as, free_step, own_step, started, step_of, url_place, with_status};
+    ghost use Rattle.history.specs.Steps.{active_step, claimed_step, ended, ends_as, free_step, own_step, started, step_of, url_place, with_status};
     ghost use Rattle.history.specs.Steps.{fetched, refreshed};
-    ghost use Rattle.trigger_table.specs.State.{cancelled_status, entered_at, last_of, opened_by, seen, step_ended, step_made, stepped, HasTurn};
+    ghost use Rattle.trigger_table.specs.State.{cancel_of, cancelled_status, entered_at, last_of, opened_by, seen, step_ended, step_made, stepped, HasTurn};
 
     /// A trigger that was just commanded.
     ///
@@ -228,13 +228,24 @@ impl TriggerState {
 
     /// It is cancelled at this moment: at once where it is pending, and with its next step where it is active.
     pub fn cancel(&mut self, moment: Moment)
-        ensures after { self.new ≡ cancelled_from moment self.old.job.status self.old }
+        ensures after { self.new ≡ cancel_of moment self.old }
         ensures id { self.new.job.id ≡ self.old.job.id }
     {
         match self.job.status {
             JobStatus::Pending => self.set_status(JobStatus::Cancelled, moment),
             JobStatus::Active => self.set_status(JobStatus::Cancelling, moment),
             _ => {}
+        }
+    }
+
+    /// The status that a cancel gives it.
+    pub fn cancelled_status(&self) -> JobStatus
+        ensures { result ≡ cancelled_status self.now.job.status }
+    {
+        match self.job.status {
+            JobStatus::Pending => JobStatus::Cancelled,
+            JobStatus::Active => JobStatus::Cancelling,
+            status => status,
         }
     }
 

@@ -1,2 +1,4 @@
-pub mod Rising
+pub mod Cancels
 pub mod Places
+pub mod Ready
+pub mod Rising

@@ -34,6 +34,7 @@ module _ (id : ℕ) where
       let later : IsAbsent id ts = absent ts (λ k lt' is. let above = rising_above t.job.id high (ids_of ts) up.1 k lt' in omega (arith, above, is, same)) in
       record {
         in_range = omega arith;
+        number = λ d. same;
         found = λ d. ap (λ b. cond b (Some t) (trigger_of id ts)) yes;
         change = λ f d. ap (λ b. cond b (f t) t ∷ changed id f ts) yes ∙ ap (λ xs. f t ∷ xs) (later.change f);
         rest = ap (λ b. cond (not b) (t ∷ without id ts) (without id ts)) yes ∙ later.rest;
@@ -44,16 +45,20 @@ module _ (id : ℕ) where
       let later : IsAt id ts i = present t.job.id high ts i up.1 (omega arith) same in
       record {
         in_range = (let lt' = later.in_range in omega (arith, lt'));
+        number = later.number;
         found = λ d. ap (λ b. cond b (Some t) (trigger_of id ts)) no ∙ later.found d;
         change = λ f d. ap (λ b. cond b (f t) t ∷ changed id f ts) no ∙ ap (λ xs. t ∷ xs) (later.change f d);
         rest = ap (λ b. cond (not b) (t ∷ without id ts) (without id ts)) no ∙ ap (λ xs. t ∷ xs) later.rest;
       }
 
+  no_gap : (i k n : ℕ) → (k < i → n < id) → (i ≤ k → id < n) → n ≡ id → ⊥
+  no_gap i k n less more same = grind arith
+
   placed_by : (low high : ℕ) (ts : List Trigger) (r : Result ℕ ℕ) → IsRising low high (ids_of ts)
       → MatchResult r (λ i. (i < length (ids_of ts)) × (get_or (ids_of ts) i 0 ≡ id)) (λ i. (i ≤ length (ids_of ts)) × ((k : ℕ) → k < i → get_or (ids_of ts) k 0 < id) × ((k : ℕ) → i ≤ k → k < length (ids_of ts) → id < get_or (ids_of ts) k 0))
       → MatchOption (result_ok r) (IsAbsent id ts) (IsAt id ts)
   placed_by low high ts (Ok i) up is = present low high ts i up is.0 is.1
-  placed_by low high ts (Err i) up is = absent ts (λ k lt same. let less = is.1 k in let more = is.2 k in omega (arith, less, more, same, lt))
+  placed_by low high ts (Err i) up is = absent ts (λ k lt same. no_gap i k (get_or (ids_of ts) k 0) (is.1 k) (λ above. is.2 k above lt) same)
 
   -- what a binary search finds
   pub placed : (high : ℕ) (ts : List Trigger) (ids : List ℕ) (r : Result ℕ ℕ) → ids ≡ ids_of ts → IsRising 0 high ids → IsBinarySearchResult (λ y. nat_cmp y id) ids r

@@ -1,5 +1,5 @@
 -- One trigger: its next step, what a step changes, and the errors that are entered.
-use Rattle.std.specs.Prelude.{ℕ, ◌+◌, ◌-◌, ◌<◌, ◌≤◌, Bool, true, false, nat_lt, ◌==◌, ◌&&◌, List, length, None, Some, if◌then◌else◌}
+use Rattle.std.specs.Prelude.{◌≡◌, ℕ, ◌+◌, ◌-◌, ◌<◌, ◌≤◌, Bool, true, false, nat_lt, ◌==◌, ◌&&◌, List, length, None, Some, if◌then◌else◌}
 use Rattle.std.specs.Option.{option_map}
 use Rattle.std.specs.declared.option.Option.{Option}
 use Rattle.trigger_command.specs.declared.spec.TheConstants.{SELECTION_MAX}
@@ -60,11 +60,16 @@ abbrev pub next_step : ℕ → Option Trigger → Step
 next_step pass None = step.Unknown
 next_step pass (Some trigger) = seen (history.step_of pass trigger)
 
--- a step that has a turn: the trigger has not made all
+-- in how many steps the metadata is fetched
+abbrev pub metadata_count : Trigger → ℕ
+metadata_count t = history.metadata_steps t.job.spec.selection.metadata_urls
+
+-- a step that has its turn: the trigger waits for nothing, and has not made all
 abbrev pub HasTurn : Step → Trigger → Type 0
-HasTurn step.Refresh trigger = trigger.steps < step_count trigger
-HasTurn (step.Url place) trigger = trigger.steps < step_count trigger
-HasTurn other trigger = Unit {0}
+HasTurn step.Refresh t = (t.awaited ≡ None) × (t.steps < metadata_count t)
+HasTurn (step.Url place) t =
+    (t.awaited ≡ None) × (place ≡ history.url_place t) × (metadata_count t ≤ t.steps) × (t.steps < step_count t)
+HasTurn other t = Unit {0}
 
 -- ---- what changes
 
@@ -119,6 +124,13 @@ ended_at false None trigger = entered_at (last_of trigger) trigger
 -- what the last step opened has ended; where it was not good, or the step was skipped, an error is entered
 abbrev pub step_ended : Bool → Trigger → Trigger
 step_ended good trigger = ended_at good trigger.awaited trigger
+
+-- after this step, what it opens and what it skips are as in a history
+abbrev pub IsReady : Step → Trigger → Trigger → Type 0
+IsReady step.Refresh old new = (number : ℕ) → opened_by number new ≡ history.waiting (OneRefresh number) old
+IsReady (step.Url place) old new = ((number : ℕ) → opened_by number new ≡ history.waiting (OneFetch number) old)
+    × (step_ended false new ≡ history.skipped place old)
+IsReady other old new = Unit {0}
 
 -- a cancel
 abbrev pub cancel_of : ℕ → Trigger → Trigger

@@ -1,13 +1,16 @@
 -- The triggers that are not deleted, as the calls of the table see them.
-use Rattle.std.specs.Prelude.{◌≡◌, ℕ, ◌+◌, ◌<◌, ◌≤◌, Bool, not, ◌==◌, List, [], ◌∷◌, ◌++◌, filter, map, length, None, Some, if◌then◌else◌, slice_set, slice_index_or, Result, Ok, Err}
-use Rattle.std.specs.List.{remove}
+use Rattle.std.specs.Prelude.{◌≡◌, ℕ, ◌+◌, ◌<◌, ◌≤◌, Bool, false, not, ◌==◌, List, [], ◌∷◌, ◌++◌, filter, map, length, None, Some, if◌then◌else◌, slice_set, slice_index_or, Result, Ok, Err}
+use Rattle.std.specs.List.{filter_map, remove}
 use Rattle.std.specs.Option.{option_map}
 use Rattle.std.specs.declared.option.Option.{Option}
 use Rattle.trigger_command.specs.Spec.{SpecParts}
 use Rattle.trigger_status.specs.declared.job.JobStatus.{JobStatus}
 use Rattle.history.specs.After.{commanded}
-use Rattle.history.specs.Steps.{cancelled, changed, first_unknown, is_trigger, statuses_of, trigger_of}
-use Rattle.history.specs.World.{Trigger}
+use Rattle.history.specs.Steps.{cancelled, changed, first_unknown, is_trigger, skipped, statuses_of, trigger_of, waiting}
+use Rattle.history.specs.World.{OneFetch, OneRefresh, Trigger}
+use Rattle.trigger_table.specs.State.{cancelled_status, opened_by, step_ended}
+use Rattle.trigger_table.specs.declared.step.Step.{Step}
+use Rattle.trigger_table.specs.declared.step.Step.TheVariants as step
 
 -- the triggers, in order of their numbers; how many there may be; and how many were made
 pub record TriggersView : Type 0 where
@@ -57,6 +60,22 @@ cancel_after_by triggers ids moment (Some unknown) = triggers
 abbrev pub cancel_after : List Trigger → List ℕ → ℕ → List Trigger
 cancel_after triggers ids moment = cancel_after_by triggers ids moment (first_unknown triggers ids)
 
+-- the statuses that a cancel gives these triggers
+abbrev pub cancelled_statuses : List Trigger → List ℕ → List JobStatus
+cancelled_statuses triggers ids =
+    filter_map (λ id. option_map (λ trigger. cancelled_status trigger.job.status) (trigger_of id triggers)) ids
+
+-- ---- steps
+
+-- after this step, what it opens and what it skips are as in a history
+abbrev pub IsReady : ℕ → Step → List Trigger → List Trigger → Type 0
+IsReady id step.Refresh old new =
+    (number : ℕ) → changed id (opened_by number) new ≡ changed id (waiting (OneRefresh number)) old
+IsReady id (step.Url place) old new =
+    ((number : ℕ) → changed id (opened_by number) new ≡ changed id (waiting (OneFetch number)) old)
+    × (changed id (step_ended false) new ≡ changed id (skipped place) old)
+IsReady id other old new = Unit {0}
+
 -- ---- where a trigger is
 
 abbrev pub ids_of : List Trigger → List ℕ
@@ -70,6 +89,7 @@ IsRising low high (id ∷ ids) = (low < id) × IsRising id high ids
 -- the trigger of this number is at this place, and no other has it
 pub record IsAt (id : ℕ) (triggers : List Trigger) (place : ℕ) : Type 0 where
   pub in_range : place < length triggers
+  pub number : (d : Trigger) → (slice_index_or triggers place d).job.id ≡ id
   pub found : (d : Trigger) → trigger_of id triggers ≡ Some (slice_index_or triggers place d)
   pub change : (f : Trigger → Trigger) (d : Trigger) → changed id f triggers ≡ slice_set triggers place (f (slice_index_or triggers place d))
   pub rest : without id triggers ≡ remove triggers place

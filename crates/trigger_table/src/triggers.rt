@@ -10,7 +10,7 @@ use listing::{Listing, Moment};
 use std::alloc::{AllocError, Global};
 use std::marker::Model;
 use trigger_command::{IdList, Spec};
-use trigger_status::{Filter, Job, JobStatus};
+use trigger_status::{Filter, Job, JobStatus, JobStatusList};
 
 /// The triggers that are not deleted, in order of their numbers. They are seen as what a history leaves of them, with how
 /// many there may be and how many were made. A trigger is found in logarithmic time.
@@ -34,9 +34,10 @@ impl Model for Triggers {
 }
 
 impl Triggers {
-    ghost use Rattle.history.specs.Steps.{changed, listed, trigger_of};
-    ghost use Rattle.trigger_table.specs.State.{cancel_of, next_step, opened_by, step_ended, step_made};
-    ghost use Rattle.trigger_table.specs.Triggers.{command_after, command_reply, with_triggers, without};
+    ghost use Rattle.history.specs.Steps.{cancelled, changed, first_unknown, is_trigger, listed, trigger_of};
+    ghost use Rattle.std.specs.List.{list_any};
+    ghost use Rattle.trigger_table.specs.State.{cancel_of, cancelled_status, next_step, opened_by, step_ended, step_made};
+    ghost use Rattle.trigger_table.specs.Triggers.{command_after, command_reply, cancel_after, cancel_reply, cancelled_statuses, with_triggers, without, IsReady};
 
     /// No triggers, and at most so many later. It takes no memory.
     pub fn new(alloc: Global, most: u64) -> Triggers
@@ -117,7 +118,8 @@ impl Triggers {
     /// The next step of this pass is done at this moment: the trigger of this number has become active, has made one step
     /// more, or has ended. It takes no memory.
     pub fn step_done(&mut self, id: u64, pass: u32, moment: Moment)
-        ensures { self.new ≡ with_triggers self.old (changed id (step_made pass moment) self.old.triggers) }
+        ensures after { self.new ≡ with_triggers self.old (changed id (step_made pass moment) self.old.triggers) }
+        ensures ready { IsReady id (next_step pass (trigger_of id self.old.triggers)) self.old.triggers self.new.triggers }
     {
         if let Some(place) = self.place_of(id) {
             self.items[place].step_done(pass, moment);
@@ -141,6 +143,86 @@ impl Triggers {
     {
         if let Some(place) = self.place_of(id) {
             self.items[place].step_ended(good);
+        }
+    }
+
+    /// Cancels the triggers of these numbers at this moment: one that is pending at once, one that is active with its next
+    /// step, and no other. The answer is their statuses then, in the order of the numbers; or the first number that no
+    /// trigger has, and then nothing has changed.
+    ///
+    /// # Errors
+    /// Want of memory. Nothing has changed then.
+    pub fn cancel(
+        &mut self,
+        alloc: Global,
+        ids: &IdList,
+        moment: Moment,
+    ) -> Result<Result<JobStatusList, u64>, AllocError>
+        ensures reply { IfOk result (λ r. r ≡ cancel_reply self.old.triggers ids.now moment) }
+        ensures after { IfOk result (λ r. self.new ≡ with_triggers self.old
+            (cancel_after self.old.triggers ids.now moment)) }
+        ensures err { OnErr result (self.new ≡ self.old) }
+    {
+        match self.first_unknown(ids.as_slice()) {
+            Some(unknown) => Ok(Err(unknown)),
+            None => {
+                let statuses = self.cancelled_statuses(alloc, ids.as_slice())?;
+                self.cancel_all(ids.as_slice(), moment);
+                Ok(Ok(statuses))
+            }
+        }
+    }
+
+    // the first of these numbers that no trigger has
+    fn first_unknown(&self, ids: &[u64]) -> Option<u64>
+        ensures { result ≡ first_unknown self.now.triggers ids.now }
+    {
+        'ids: for i in 0..ids.len() {
+            let id = ids[i];
+            if !self.has(id) {
+                return Some(id);
+            }
+        }
+        None
+    }
+
+    // whether there is a trigger of this number
+    fn has(&self, id: u64) -> bool
+        ensures { result ≡ list_any (is_trigger id) self.now.triggers }
+    {
+        self.place_of(id).is_some()
+    }
+
+    // the statuses that a cancel gives these triggers
+    fn cancelled_statuses(&self, alloc: Global, ids: &[u64]) -> Result<JobStatusList, AllocError>
+        ensures { IfOk result (λ list. list ≡ cancelled_statuses self.now.triggers ids.now) }
+    {
+        let mut statuses = Listing::new(alloc);
+        'ids: for i in 0..ids.len() {
+            if let Some(status) = self.cancelled_status(ids[i]) {
+                statuses.push(status)?;
+            }
+        }
+        Ok(statuses)
+    }
+
+    // the status that a cancel gives the trigger of this number
+    fn cancelled_status(&self, id: u64) -> Option<JobStatus>
+        ensures { result ≡ option_map (λ trigger. cancelled_status trigger.job.status)
+            (trigger_of id self.now.triggers) }
+    {
+        match self.place_of(id) {
+            Some(place) => Some(self.items[place].cancelled_status()),
+            None => None,
+        }
+    }
+
+    // cancels the triggers of these numbers
+    fn cancel_all(&mut self, ids: &[u64], moment: Moment)
+        ensures { self.new ≡ with_triggers self.old (cancelled moment ids.now self.old.triggers) }
+    {
+        'ids: for i in 0..ids.len() {
+            self.cancel_one(ids[i], moment);
         }
     }
 

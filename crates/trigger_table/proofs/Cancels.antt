@@ -1,6 +1,6 @@
 -- A cancel of many triggers, one after the other.
-use Rattle.std.proofs.Common.{◌≡◌, ℕ, suc, ◌+◌, ◌<◌, ◌≤◌, length, get_or, take, drop, Bool, true, false, cond, List, [], ◌∷◌, ◌++◌, map, None, Some, Result, Ok, refl, sym, ap, ◌∙◌, arith, ◌==◌, ◌||◌, add-one}
-use Rattle.std.specs.List.{find, filter_map, cons_option, list_any}
+use Rattle.std.proofs.Common.{◌≡◌, ℕ, suc, ◌+◌, ◌<◌, length, get_or, take, drop, Bool, true, false, cond, List, [], ◌∷◌, ◌++◌, None, Some, Ok, refl, sym, ap, ◌∙◌, ◌==◌, ◌||◌, add-one}
+use Rattle.std.specs.List.{find, cons_option, list_any}
 use Rattle.std.specs.Option.{MatchOption, is_some, option_map, option_to_list}
 use Rattle.std.specs.declared.option.Option.{Option}
 use Rattle.std.proofs.Math.Seq.{drop-cons, take-suc}

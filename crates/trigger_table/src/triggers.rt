@@ -116,7 +116,8 @@ impl Triggers {
     }
 
     /// The next step of this pass is done at this moment: the trigger of this number has become active, has made one step
-    /// more, or has ended. It takes no memory.
+    /// more, or has ended. Where no step was next, nothing changes. What such a step opens is told by `step_opened`; where
+    /// it was skipped, `step_ended` enters the error. It takes no memory.
     pub fn step_done(&mut self, id: u64, pass: u32, moment: Moment)
         ensures after { self.new ≡ with_triggers self.old (changed id (step_made pass moment) self.old.triggers) }
         ensures ready { IsReady id (next_step pass (trigger_of id self.old.triggers)) self.old.triggers self.new.triggers }
@@ -126,7 +127,8 @@ impl Triggers {
         }
     }
 
-    /// The last step of the trigger of this number has opened the fetch or the refresh of that number. It takes no memory.
+    /// The last step of the trigger of this number has opened the fetch or the refresh of that number. Where its last step
+    /// opens nothing, or there is no such trigger, nothing changes. It takes no memory.
     pub fn step_opened(&mut self, id: u64, number: u64)
         ensures { self.new ≡ with_triggers self.old (changed id (opened_by number) self.old.triggers) }
     {

@@ -1,4 +1,4 @@
-use Rattle.std.proofs.Common.{sym, ap, ◌∙◌}
+use Rattle.std.proofs.Common.{sym, ◌∙◌}
 use Rattle.trigger_table.proofs.Cancels.{cancel_is}
 use Rattle.trigger_table.proofs.triggers.Triggers.cancel.Goals as goal
 

@@ -1,4 +1,4 @@
-use Rattle.std.proofs.Common.{ap, sym, arith}
+use Rattle.std.proofs.Common.{ap, sym}
 use Rattle.trigger_table.proofs.Cancels.{cancelled_more, cancelled_none}
 use Rattle.trigger_table.specs.Triggers.{with_triggers}
 use Rattle.trigger_table.proofs.triggers.Triggers.cancel_all.Goals as goal

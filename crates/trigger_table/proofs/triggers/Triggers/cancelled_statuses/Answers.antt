@@ -1,4 +1,4 @@
-use Rattle.std.proofs.Common.{sym, ap, ◌∙◌, ◌++◌, take, List, None, Some}
+use Rattle.std.proofs.Common.{sym, ◌∙◌, None, Some}
 use Rattle.std.proofs.lemmas.List.{append-nil}
 use Rattle.trigger_table.proofs.Cancels.{statuses_more}
 use Rattle.trigger_table.proofs.triggers.Triggers.cancelled_statuses.Goals as goal

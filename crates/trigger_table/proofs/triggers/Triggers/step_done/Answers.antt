@@ -1,5 +1,5 @@
 use Rattle.std.proofs.Common.{sym, ap, ◌∙◌}
-use Rattle.trigger_table.specs.State.{next_step, step_made}
+use Rattle.trigger_table.specs.State.{step_made}
 use Rattle.trigger_table.proofs.Places.{seen_with, set_at, set_ids}
 use Rattle.trigger_table.proofs.Ready.{ready_at}
 use Rattle.trigger_table.proofs.triggers.Triggers.step_done.Goals as goal

@@ -6,8 +6,8 @@ use Rattle.std.proofs.lemmas.List.{map-set, set-set}
 use Rattle.history.specs.Steps.{changed, is_trigger, skipped, step_of, trigger_of, waiting}
 use Rattle.history.specs.World.{OneFetch, OneRefresh, Trigger}
 use Rattle.trigger_table.specs.State as state
-use Rattle.trigger_table.specs.State.{IsBounded, ended_at, entered_at, has_room, is_first, metadata_count, next_step, opened_at, opened_by, seen, step_count, step_ended, stepped}
-use Rattle.trigger_table.specs.Triggers.{IsAt, IsReady}
+use Rattle.trigger_table.specs.State.{made, next_step, opened_by, seen, step_ended, step_made}
+use Rattle.trigger_table.specs.Triggers.{IsAt, TriggersGoOn, step_after}
 use Rattle.trigger_table.specs.declared.step.Step.{Step}
 use Rattle.trigger_table.specs.declared.step.Step.TheVariants as step
 
@@ -22,7 +22,7 @@ module _ (id : ℕ) (ts : List Trigger) (place : ℕ) (at : IsAt id ts place) (o
       ∙ ap (set ts place) (fg ∙ ap g is)
       ∙ sym (at.change g old)
 
-  pub ready_in : (s : Step) → state.IsReady s old new → IsReady id s ts (set ts place new)
+  pub ready_in : (s : Step) → state.GoesOn s old new → TriggersGoOn id s ts (set ts place new)
   ready_in step.Unknown ready = tt
   ready_in (step.Final status) ready = tt
   ready_in (step.Claimed claimant) ready = tt
@@ -32,7 +32,12 @@ module _ (id : ℕ) (ts : List Trigger) (place : ℕ) (at : IsAt id ts place) (o
   ready_in (step.Url url) ready = (λ number. changed_twice (opened_by number) (waiting (OneFetch number)) (ready.0 number), changed_twice (step_ended false) (skipped url) ready.1)
   ready_in (step.End status) ready = tt
 
-  pub ready_at : (pass : ℕ) → state.IsReady (seen (step_of pass old)) old new → IsReady id (next_step pass (trigger_of id ts)) ts (set ts place new)
+  pub ready_at : (pass : ℕ) → state.GoesOn (seen (step_of pass old)) old new → TriggersGoOn id (next_step pass (trigger_of id ts)) ts (set ts place new)
   ready_at pass ready =
-      subst (λ (o : Option Trigger). IsReady id (next_step pass o) ts (set ts place new)) (ap Some is ∙ sym (at.found old))
+      subst (λ (o : Option Trigger). TriggersGoOn id (next_step pass o) ts (set ts place new)) (ap Some is ∙ sym (at.found old))
       (ready_in (seen (step_of pass old)) ready)
+
+  pub step_at : (pass moment : ℕ) → new ≡ step_made pass moment old → set ts place new ≡ step_after id pass moment ts
+  step_at pass moment done =
+      ap (set ts place) (done ∙ ap (λ (o : Option Trigger). made pass moment (next_step pass o) old) (ap Some is ∙ sym (at.found old)) ∙ ap (made pass moment (next_step pass (trigger_of id ts))) is)
+      ∙ sym (at.change (made pass moment (next_step pass (trigger_of id ts))) old)

@@ -1,7 +1,11 @@
 -- Numbers that rise.
-use Rattle.std.proofs.Common.{ℕ, zero, suc, ◌<◌, ◌≤◌, length, get_or, List, [], ◌∷◌, ◌++◌, arith}
-use Rattle.std.specs.List.{remove}
-use Rattle.trigger_table.specs.Triggers.{IsRising}
+use Rattle.std.proofs.Common.{◌≡◌, ℕ, zero, suc, ◌<◌, ◌≤◌, length, get_or, Bool, true, false, cond, List, [], ◌∷◌, ◌++◌, subst, arith}
+use Rattle.std.specs.List.{filter, remove}
+use Rattle.std.proofs.Math.Nat.{le_of_lt}
+use Rattle.trigger_status.specs.declared.job.Filter.{Filter}
+use Rattle.history.specs.Steps.{is_listed, listed}
+use Rattle.history.specs.World.{Trigger}
+use Rattle.trigger_table.specs.Triggers.{IsRising, ids_of}
 
 pub rising_bound : (low high : ℕ) (ids : List ℕ) → IsRising low high ids → low ≤ high
 rising_bound low high [] up = up
@@ -32,3 +36,16 @@ pub rising_remove : (low high : ℕ) (ids : List ℕ) (i : ℕ) → IsRising low
 rising_remove low high [] i up lt = elim lt [ ]
 rising_remove low high (id ∷ ids) zero up lt = rising_lower id low high ids up.1 (omega (arith, up.0))
 rising_remove low high (id ∷ ids) (suc i) up lt = (up.0, rising_remove id high ids i up.1 (omega arith))
+
+pub rising_filter : (test : Trigger → Bool) (low high : ℕ) (ts : List Trigger) → IsRising low high (ids_of ts) → IsRising low high (ids_of (filter test ts))
+rising_filter test low high [] up = up
+rising_filter test low high (t ∷ ts) up =
+    let later = rising_filter test t.job.id high ts up.1 in
+    elim (test t) as (λ b. IsRising low high (ids_of (cond b (t ∷ filter test ts) (filter test ts)))) [
+      | true ↦ (up.0, later)
+      | false ↦ rising_lower t.job.id low high (ids_of (filter test ts)) later (le_of_lt up.0)
+    ]
+
+-- the numbers that are listed
+pub rising_listed : (by : Filter) (high : ℕ) (ts : List Trigger) (ids : List ℕ) → ids ≡ ids_of ts → IsRising 0 high ids → IsRising 0 high (listed by ts)
+rising_listed by high ts ids same up = rising_filter (λ t. is_listed by t.job.status) 0 high ts (subst (IsRising 0 high) same up)

@@ -126,11 +126,11 @@ abbrev pub step_ended : Bool → Trigger → Trigger
 step_ended good trigger = ended_at good trigger.awaited trigger
 
 -- after this step, what it opens and what it skips are as in a history
-abbrev pub IsReady : Step → Trigger → Trigger → Type 0
-IsReady step.Refresh old new = (number : ℕ) → opened_by number new ≡ history.waiting (OneRefresh number) old
-IsReady (step.Url place) old new = ((number : ℕ) → opened_by number new ≡ history.waiting (OneFetch number) old)
+abbrev pub GoesOn : Step → Trigger → Trigger → Type 0
+GoesOn step.Refresh old new = (number : ℕ) → opened_by number new ≡ history.waiting (OneRefresh number) old
+GoesOn (step.Url place) old new = ((number : ℕ) → opened_by number new ≡ history.waiting (OneFetch number) old)
     × (step_ended false new ≡ history.skipped place old)
-IsReady other old new = Unit {0}
+GoesOn other old new = Unit {0}
 
 -- a cancel
 abbrev pub cancel_of : ℕ → Trigger → Trigger

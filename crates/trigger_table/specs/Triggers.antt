@@ -8,7 +8,7 @@ use Rattle.trigger_status.specs.declared.job.JobStatus.{JobStatus}
 use Rattle.history.specs.After.{commanded}
 use Rattle.history.specs.Steps.{cancelled, changed, first_unknown, is_trigger, skipped, statuses_of, trigger_of, waiting}
 use Rattle.history.specs.World.{OneFetch, OneRefresh, Trigger}
-use Rattle.trigger_table.specs.State.{cancelled_status, opened_by, step_ended}
+use Rattle.trigger_table.specs.State.{cancelled_status, made, next_step, opened_by, step_ended}
 use Rattle.trigger_table.specs.declared.step.Step.{Step}
 use Rattle.trigger_table.specs.declared.step.Step.TheVariants as step
 
@@ -67,14 +67,18 @@ cancelled_statuses triggers ids =
 
 -- ---- steps
 
+-- the next step of this pass is done
+abbrev pub step_after : ℕ → ℕ → ℕ → List Trigger → List Trigger
+step_after id pass moment triggers = changed id (made pass moment (next_step pass (trigger_of id triggers))) triggers
+
 -- after this step, what it opens and what it skips are as in a history
-abbrev pub IsReady : ℕ → Step → List Trigger → List Trigger → Type 0
-IsReady id step.Refresh old new =
+abbrev pub TriggersGoOn : ℕ → Step → List Trigger → List Trigger → Type 0
+TriggersGoOn id step.Refresh old new =
     (number : ℕ) → changed id (opened_by number) new ≡ changed id (waiting (OneRefresh number)) old
-IsReady id (step.Url place) old new =
+TriggersGoOn id (step.Url place) old new =
     ((number : ℕ) → changed id (opened_by number) new ≡ changed id (waiting (OneFetch number)) old)
     × (changed id (step_ended false) new ≡ changed id (skipped place) old)
-IsReady id other old new = Unit {0}
+TriggersGoOn id other old new = Unit {0}
 
 -- ---- where a trigger is
 

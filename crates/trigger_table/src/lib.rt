@@ -4,6 +4,8 @@
 
 mod state;
 mod step;
+#[cfg(test)]
+mod tests;
 mod triggers;
 
 pub use step::Step;

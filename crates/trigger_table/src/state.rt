@@ -55,7 +55,7 @@ impl TriggerState {
     ghost use Rattle.history.specs.After.{commanded};
     ghost use Rattle.history.specs.Steps.{active_step, claimed_step, ended, ends_as, free_step, own_step, started, step_of, url_place, with_status};
     ghost use Rattle.history.specs.Steps.{fetched, refreshed};
-    ghost use Rattle.trigger_table.specs.State.{cancel_of, cancelled_status, entered_at, last_of, opened_by, seen, step_ended, step_made, stepped, HasTurn, IsReady};
+    ghost use Rattle.trigger_table.specs.State.{cancel_of, cancelled_status, entered_at, last_of, opened_by, seen, step_ended, step_made, stepped, HasTurn, GoesOn};
 
     /// A trigger that was just commanded.
     ///
@@ -195,7 +195,7 @@ impl TriggerState {
     pub fn step_done(&mut self, pass: u32, moment: Moment)
         ensures after { self.new ≡ step_made pass moment self.old }
         ensures id { self.new.job.id ≡ self.old.job.id }
-        ensures ready { IsReady (seen (step_of pass self.old)) self.old self.new }
+        ensures ready { GoesOn (seen (step_of pass self.old)) self.old self.new }
     {
         match self.next_step(pass) {
             Step::Start => self.start(pass, moment),

@@ -36,8 +36,8 @@ impl Model for Triggers {
 impl Triggers {
     ghost use Rattle.history.specs.Steps.{cancelled, changed, first_unknown, is_trigger, listed, trigger_of};
     ghost use Rattle.std.specs.List.{list_any};
-    ghost use Rattle.trigger_table.specs.State.{cancel_of, cancelled_status, next_step, opened_by, step_ended, step_made};
-    ghost use Rattle.trigger_table.specs.Triggers.{command_after, command_reply, cancel_after, cancel_reply, cancelled_statuses, with_triggers, without, IsReady};
+    ghost use Rattle.trigger_table.specs.State.{cancel_of, cancelled_status, next_step, opened_by, step_ended};
+    ghost use Rattle.trigger_table.specs.Triggers.{command_after, command_reply, cancel_after, cancel_reply, cancelled_statuses, step_after, with_triggers, without, TriggersGoOn, IsRising};
 
     /// No triggers, and at most so many later. It takes no memory.
     pub fn new(alloc: Global, most: u64) -> Triggers
@@ -119,8 +119,8 @@ impl Triggers {
     /// more, or has ended. Where no step was next, nothing changes. What such a step opens is told by `step_opened`; where
     /// it was skipped, `step_ended` enters the error. It takes no memory.
     pub fn step_done(&mut self, id: u64, pass: u32, moment: Moment)
-        ensures after { self.new ≡ with_triggers self.old (changed id (step_made pass moment) self.old.triggers) }
-        ensures ready { IsReady id (next_step pass (trigger_of id self.old.triggers)) self.old.triggers self.new.triggers }
+        ensures after { self.new ≡ with_triggers self.old (step_after id pass moment self.old.triggers) }
+        ensures ready { TriggersGoOn id (next_step pass (trigger_of id self.old.triggers)) self.old.triggers self.new.triggers }
     {
         if let Some(place) = self.place_of(id) {
             self.items[place].step_done(pass, moment);
@@ -242,7 +242,8 @@ impl Triggers {
     /// # Errors
     /// Want of memory.
     pub fn job_ids(&self, alloc: Global, filter: Filter) -> Result<IdList, AllocError>
-        ensures { IfOk result (λ ids. ids ≡ listed filter self.now.triggers) }
+        ensures value { IfOk result (λ ids. ids ≡ listed filter self.now.triggers) }
+        ensures rising { IfOk result (IsRising 0 self.now.created) }
     {
         listed(alloc, &self.items, filter)
     }

@@ -95,7 +95,8 @@ pub record IsAt (id : ℕ) (triggers : List Trigger) (place : ℕ) : Type 0 wher
   pub in_range : place < length triggers
   pub number : (d : Trigger) → (slice_index_or triggers place d).job.id ≡ id
   pub found : (d : Trigger) → trigger_of id triggers ≡ Some (slice_index_or triggers place d)
-  pub change : (f : Trigger → Trigger) (d : Trigger) → changed id f triggers ≡ slice_set triggers place (f (slice_index_or triggers place d))
+  pub change : (f : Trigger → Trigger) (d : Trigger)
+      → changed id f triggers ≡ slice_set triggers place (f (slice_index_or triggers place d))
   pub rest : without id triggers ≡ remove triggers place
 
 -- no trigger has this number

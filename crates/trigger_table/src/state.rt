@@ -217,8 +217,8 @@ impl TriggerState {
         }
     }
 
-    /// What the last step opened has ended, if it opened something. Where it was not good, an error is entered. It takes
-    /// no memory.
+    /// What the last step opened has ended, if it opened something. Where it was not good, an error is entered. It
+    /// takes no memory.
     pub fn step_ended(&mut self, good: bool)
         ensures after { self.new ≡ step_ended good self.old }
         ensures id { self.new.job.id ≡ self.old.job.id }

@@ -86,9 +86,10 @@ fn a_preposition_fails_where_a_fetch_did(rt: HostRuntime) -> Result<(), Fail> {
 #[test]
 fn triggers_are_cancelled_listed_and_deleted(rt: HostRuntime) -> Result<(), Fail> {
     let alloc = rt.alloc();
+    let mut full = Triggers::new(alloc, 0);
+    let purge = spec_of(alloc, TriggerKind::Purge, 0, 1)?;
+    assert!(rt; full.command(alloc, purge, 1000)?.is_none());
     let mut triggers = preposition(alloc)?;
-    let other = spec_of(alloc, TriggerKind::Purge, 0, 1)?;
-    assert!(rt; triggers.command(alloc, other, 1000)?.is_none());
     let unknown = triggers.cancel(alloc, &id_list(alloc, &[1, 2])?, 2000)?;
     assert!(rt; unknown.err() == Some(2));
     let known = triggers.cancel(alloc, &id_list(alloc, &[1])?, 2000)?;

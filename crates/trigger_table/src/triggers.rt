@@ -12,8 +12,8 @@ use std::marker::Model;
 use trigger_command::{IdList, Spec};
 use trigger_status::{Filter, Job, JobStatus, JobStatusList};
 
-/// The triggers that are not deleted, in order of their numbers. They are seen as what a history leaves of them, with how
-/// many there may be and how many were made. A trigger is found in logarithmic time.
+/// The triggers that are not deleted, in order of their numbers. They are seen as what a history leaves of them, with
+/// how many there may be and how many were made. A trigger is found in logarithmic time.
 #[derive(Drop)]
 pub struct Triggers {
     items: Vec<TriggerState>,
@@ -115,20 +115,21 @@ impl Triggers {
         Ok(Some(id))
     }
 
-    /// The next step of this pass is done at this moment: the trigger of this number has become active, has made one step
-    /// more, or has ended. Where no step was next, nothing changes. What such a step opens is told by `step_opened`; where
-    /// it was skipped, `step_ended` enters the error. It takes no memory.
+    /// The next step of this pass is done at this moment: the trigger of this number has become active, has made one
+    /// step more, or has ended. Where no step was next, nothing changes. What such a step opens is told by
+    /// `step_opened`; where it was skipped, `step_ended` enters the error. It takes no memory.
     pub fn step_done(&mut self, id: u64, pass: u32, moment: Moment)
         ensures after { self.new ≡ with_triggers self.old (step_after id pass moment self.old.triggers) }
-        ensures ready { TriggersGoOn id (next_step pass (trigger_of id self.old.triggers)) self.old.triggers self.new.triggers }
+        ensures ready { TriggersGoOn id (next_step pass (trigger_of id self.old.triggers))
+            self.old.triggers self.new.triggers }
     {
         if let Some(place) = self.place_of(id) {
             self.items[place].step_done(pass, moment);
         }
     }
 
-    /// The last step of the trigger of this number has opened the fetch or the refresh of that number. Where its last step
-    /// opens nothing, or there is no such trigger, nothing changes. It takes no memory.
+    /// The last step of the trigger of this number has opened the fetch or the refresh of that number. Where its last
+    /// step opens nothing, or there is no such trigger, nothing changes. It takes no memory.
     pub fn step_opened(&mut self, id: u64, number: u64)
         ensures { self.new ≡ with_triggers self.old (changed id (opened_by number) self.old.triggers) }
     {
@@ -137,9 +138,9 @@ impl Triggers {
         }
     }
 
-    /// What the last step of the trigger of this number opened has ended, if it opened something. Where it was not good,
-    /// or the step was skipped, an error is entered: that of the metadata, or the place of the content URL. Where there is
-    /// no such trigger, nothing changes. It takes no memory.
+    /// What the last step of the trigger of this number opened has ended, if it opened something. Where it was not
+    /// good, or the step was skipped, an error is entered: that of the metadata, or the place of the content URL. Where
+    /// there is no such trigger, nothing changes. It takes no memory.
     pub fn step_ended(&mut self, id: u64, good: bool)
         ensures { self.new ≡ with_triggers self.old (changed id (step_ended good) self.old.triggers) }
     {
@@ -148,9 +149,9 @@ impl Triggers {
         }
     }
 
-    /// Cancels the triggers of these numbers at this moment: one that is pending at once, one that is active with its next
-    /// step, and no other. The answer is their statuses then, in the order of the numbers; or the first number that no
-    /// trigger has, and then nothing has changed.
+    /// Cancels the triggers of these numbers at this moment: one that is pending at once, one that is active with its
+    /// next step, and no other. The answer is their statuses then, in the order of the numbers; or the first number
+    /// that no trigger has, and then nothing has changed.
     ///
     /// # Errors
     /// Want of memory. Nothing has changed then.

@@ -3,16 +3,19 @@ use Rattle.std.proofs.Common.{◌≡◌, ℕ, zero, suc, ◌<◌, ◌≤◌, len
 use Rattle.std.specs.List.{remove}
 use Rattle.std.specs.Option.{MatchOption}
 use Rattle.std.proofs.lemmas.Bool.{eq-eqb, ne_eqb}
-use Rattle.history.specs.Steps.{changed, is_trigger, trigger_of}
+use Rattle.history.specs.Steps.{changed, ended, is_trigger, trigger_of}
 use Rattle.history.specs.World.{Trigger}
 use Rattle.std.specs.List.Sorted.{IsBinarySearchResult}
 use Rattle.std.specs.Ordering.{nat_cmp}
 use Rattle.std.specs.Result.{MatchResult, result_ok}
 use Rattle.std.proofs.Math.Seq.{map-set_same}
-use Rattle.std.proofs.lemmas.List.{length-map, map-append}
+use Rattle.std.proofs.lemmas.List.{length-map, map-append, set-get_or}
 use Rattle.std.proofs.lemmas.List.Sorted.{searched}
 use Rattle.trigger_table.proofs.Rising.{rising_above, rising_in_order}
-use Rattle.trigger_table.specs.Triggers.{IsAbsent, IsAt, IsRising, TriggersView, ids_of, without}
+use Rattle.trigger_table.specs.State.{HasTurn}
+use Rattle.trigger_table.specs.declared.step.Step.{Step}
+use Rattle.trigger_table.specs.declared.step.Step.TheVariants as step
+use Rattle.trigger_table.specs.Triggers.{IsAbsent, IsAt, IsRising, StaysEnded, TriggersView, ids_of, without}
 
 module _ (id : ℕ) where
   pub absent : (ts : List Trigger) → ((k : ℕ) → k < length (ids_of ts) → get_or (ids_of ts) k 0 ≡ id → ⊥) → IsAbsent id ts
@@ -89,3 +92,14 @@ in_ids ts ids id place same at = let r = at.in_range in rw (same, length-map) r
 -- the view with these triggers
 abbrev pub seen_with : ℕ → ℕ → List Trigger → TriggersView
 seen_with most created triggers = record { triggers = triggers; most = most; created = created }
+
+-- where it has ended before, it does not end again
+pub stays_ended : (id : ℕ) (ts : List Trigger) (place : ℕ) (t : Trigger) (s : Step) → IsAt id ts place → t ≡ get_or ts place t → HasTurn s t → StaysEnded id s ts
+stays_ended id ts place t step.Unknown at is turn = tt
+stays_ended id ts place t (step.Final status) at is turn = λ moment. at.change (ended moment status) t ∙ ap (λ u. set ts place (ended moment status u)) (sym is) ∙ ap (set ts place) (turn moment ∙ is) ∙ set-get_or ts place t
+stays_ended id ts place t (step.Claimed claimant) at is turn = tt
+stays_ended id ts place t (step.StepOpen number) at is turn = tt
+stays_ended id ts place t step.Start at is turn = tt
+stays_ended id ts place t step.Refresh at is turn = tt
+stays_ended id ts place t (step.Url url) at is turn = tt
+stays_ended id ts place t (step.End status) at is turn = tt

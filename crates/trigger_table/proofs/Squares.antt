@@ -1,5 +1,5 @@
 -- What a step's end leaves is what a history leaves where the fetch or the refresh ends that the trigger alone waits for.
-use Rattle.std.proofs.Common.{◌≡◌, ℕ, Bool, true, false, cond, List, [], ◌∷◌, None, Some, refl, ap, ◌∙◌, ◌==◌}
+use Rattle.std.proofs.Common.{◌≡◌, ℕ, Bool, cond, List, [], ◌∷◌, None, Some, refl, ap, ◌∙◌}
 use Rattle.std.specs.declared.option.Option.{Option}
 use Rattle.history.specs.After.{ended_fetch, ended_refresh}
 use Rattle.history.specs.Steps.{awaits_fetch, awaits_refresh, changed, fetched, is_trigger, refreshed}

@@ -64,11 +64,12 @@ next_step pass (Some trigger) = seen (history.step_of pass trigger)
 abbrev pub metadata_count : Trigger → ℕ
 metadata_count t = history.metadata_steps t.job.spec.selection.metadata_urls
 
--- a step that has its turn: the trigger waits for nothing, and has not made all
+-- a step that has its turn: the trigger waits for nothing, and has not made all; what has ended does not end again
 abbrev pub HasTurn : Step → Trigger → Type 0
 HasTurn step.Refresh t = (t.awaited ≡ None) × (t.steps < metadata_count t)
 HasTurn (step.Url place) t =
     (t.awaited ≡ None) × (place ≡ history.url_place t) × (metadata_count t ≤ t.steps) × (t.steps < step_count t)
+HasTurn (step.Final status) t = (moment : ℕ) → history.ended moment status t ≡ t
 HasTurn other t = Unit {0}
 
 -- ---- what changes

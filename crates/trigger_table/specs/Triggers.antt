@@ -6,7 +6,7 @@ use Rattle.std.specs.declared.option.Option.{Option}
 use Rattle.trigger_command.specs.Spec.{SpecParts}
 use Rattle.trigger_status.specs.declared.job.JobStatus.{JobStatus}
 use Rattle.history.specs.After.{commanded}
-use Rattle.history.specs.Steps.{cancelled, changed, first_unknown, is_trigger, skipped, statuses_of, trigger_of, waiting}
+use Rattle.history.specs.Steps.{cancelled, changed, ended, first_unknown, is_trigger, skipped, statuses_of, trigger_of, waiting}
 use Rattle.history.specs.World.{OneFetch, OneRefresh, Trigger}
 use Rattle.trigger_table.specs.State.{cancelled_status, made, next_step, opened_by, step_ended}
 use Rattle.trigger_table.specs.declared.step.Step.{Step}
@@ -66,6 +66,11 @@ cancelled_statuses triggers ids =
     filter_map (λ id. option_map (λ trigger. cancelled_status trigger.job.status) (trigger_of id triggers)) ids
 
 -- ---- steps
+
+-- where it has ended before, it does not end again
+abbrev pub StaysEnded : ℕ → Step → List Trigger → Type 0
+StaysEnded id (step.Final status) triggers = (moment : ℕ) → changed id (ended moment status) triggers ≡ triggers
+StaysEnded id other triggers = Unit {0}
 
 -- the next step of this pass is done
 abbrev pub step_after : ℕ → ℕ → ℕ → List Trigger → List Trigger

@@ -37,7 +37,7 @@ impl Triggers {
     ghost use Rattle.history.specs.Steps.{cancelled, changed, first_unknown, is_trigger, listed, trigger_of};
     ghost use Rattle.std.specs.List.{list_any};
     ghost use Rattle.trigger_table.specs.State.{cancel_of, cancelled_status, next_step, opened_by, step_ended};
-    ghost use Rattle.trigger_table.specs.Triggers.{command_after, command_reply, cancel_after, cancel_reply, cancelled_statuses, step_after, with_triggers, without, TriggersGoOn, IsRising};
+    ghost use Rattle.trigger_table.specs.Triggers.{command_after, command_reply, cancel_after, cancel_reply, cancelled_statuses, step_after, with_triggers, without, TriggersGoOn, IsRising, StaysEnded};
 
     /// No triggers, and at most so many later. It takes no memory.
     pub fn new(alloc: Global, most: u64) -> Triggers
@@ -60,7 +60,8 @@ impl Triggers {
 
     /// What this pass would do with the trigger of this number.
     pub fn next_step(&self, pass: u32, id: u64) -> Step
-        ensures { result ≡ next_step pass (trigger_of id self.now.triggers) }
+        ensures value { result ≡ next_step pass (trigger_of id self.now.triggers) }
+        ensures ended { StaysEnded id result self.now.triggers }
     {
         match self.place_of(id) {
             Some(place) => self.items[place].next_step(pass),

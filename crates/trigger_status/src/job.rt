@@ -1,7 +1,12 @@
 //! Triggers and where they stand.
 
+ghost use Rattle.std.specs.Prelude.{◌≡◌, ◌<◌, [], ◌∷◌, ◌++◌, length, IfOk};
+ghost use Rattle.trigger_command.specs.declared.spec.TheConstants.{SELECTION_MAX};
+
 use listing::{Listing, Moment};
-use trigger_command::Spec;
+use std::alloc::{AllocError, Global};
+use std::marker::Model;
+use trigger_command::{SELECTION_MAX, Spec};
 
 /// The status of a trigger (RFC 8007, section 5.2.3).
 #[derive(Clone, Copy, Debug, PartialEq, Eq)]
@@ -38,8 +43,70 @@ pub enum Filter {
 /// A list of statuses.
 pub type JobStatusList = Listing<JobStatus>;
 
-/// A list of places in a list, counted from 0.
-pub type IndexList = Listing<u32>;
+/// Places in a list of at most 1,000 items, counted from 0. It is seen as the list of them. It is made with memory for
+/// 1,000 places, so that one is added without.
+#[derive(Drop)]
+pub struct IndexList {
+    items: Vec<u32>,
+}
+
+impl Model for IndexList {
+    ghost use Rattle.std.specs.Prelude.{ℕ, List, ◌≤◌};
+    ghost use Rattle.std.specs.Vec.{vec_capacity};
+    ghost use Rattle.trigger_command.specs.declared.spec.TheConstants.{SELECTION_MAX};
+
+    ghost Value = { List ℕ };
+
+    ghost view = { λ l. l.items.items };
+
+    ghost invariant = { λ l. SELECTION_MAX ≤ vec_capacity l.items };
+}
+
+impl IndexList {
+    /// No places, and memory for 1,000.
+    ///
+    /// # Errors
+    /// Want of memory.
+    pub fn new(alloc: Global) -> Result<IndexList, AllocError>
+        ensures { IfOk result (λ list. list ≡ []) }
+    {
+        Ok(IndexList {
+            items: Vec::with_capacity(alloc, SELECTION_MAX)?,
+        })
+    }
+
+    /// How many places there are.
+    pub fn len(&self) -> usize
+        ensures { result ≡ length self.now }
+    {
+        self.items.len()
+    }
+
+    /// The places, in order.
+    pub fn as_slice(&self) -> &[u32]
+        ensures { result.now ≡ self.now }
+    {
+        &self.items
+    }
+
+    /// Adds a place at the end. It takes no memory.
+    pub fn push_reserved(&mut self, place: u32)
+        requires { length self.old < SELECTION_MAX }
+        ensures { self.new ≡ self.old ++ place ∷ [] }
+    {
+        self.items.push_reserved(place);
+    }
+}
+
+impl Clone for IndexList {
+    ghost is_clone = { λ list copy. copy ≡ list };
+
+    fn clone(&self) -> Result<IndexList, AllocError> {
+        let mut items = Vec::with_capacity(*self.items.allocator(), SELECTION_MAX)?;
+        items.extend_from_slice(&self.items)?;
+        Ok(IndexList { items })
+    }
+}
 
 /// A trigger as its status resource shows it (RFC 8007, section 5.1.2).
 #[derive(Clone, Drop)]

@@ -5,7 +5,7 @@ use cdni_base::{Endpoint, HostName, ProviderId};
 use listing::Listing;
 use std::alloc::{AllocError, Global};
 use std::test::Fail;
-use trigger_command::{Act, Command, IdList, Spec};
+use trigger_command::{Act, Command, IdList, SELECTION_MAX, Spec};
 
 fn own_id(alloc: Global) -> Result<ProviderId, Fail> {
     Ok(ProviderId::read(alloc, b"AS64496:0")?)
@@ -50,9 +50,11 @@ fn read_spec(alloc: Global, text: &[u8]) -> Result<Spec, Fail> {
 }
 
 fn index_list(alloc: Global, places: &[u32]) -> Result<IndexList, AllocError> {
-    let mut list: IndexList = Listing::new(alloc);
+    let mut list = IndexList::new(alloc)?;
     for place in places {
-        list.push(*place)?;
+        if list.len() < SELECTION_MAX {
+            list.push_reserved(*place);
+        }
     }
     Ok(list)
 }

@@ -1,0 +1,5 @@
+pub mod Cancels
+pub mod Places
+pub mod Ready
+pub mod Rising
+pub mod Squares

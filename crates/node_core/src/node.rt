@@ -1,13 +1,13 @@
 //! The node: one call after the other.
 
-ghost use Rattle.std.specs.Prelude.{◌≡◌, ◌≤◌, ℕ, [], IfOk, OnErr};
+ghost use Rattle.std.specs.Prelude.{◌≡◌, ◌≤◌, ℕ, [], IfOk, IsOk, IsTrue, OnErr};
 ghost use Rattle.std.specs.Option.{option_map};
 ghost use Rattle.delivery_core.specs.Traces.{reply_of, fetch_ended, finished, refresh_ended};
 ghost use Rattle.history.specs.After.{opened_by};
 ghost use Rattle.history.specs.Event.{History, Admit, FetchEnd, Finish, RefreshBegin, RefreshEnd, Cut, DropLog, ListLogs, LogFile};
 ghost use Rattle.metadata_objects.specs.Tree.{tree_view};
 ghost use Rattle.history.specs.World.{Made};
-ghost use Rattle.node_core.specs.Call.{event_of};
+ghost use Rattle.node_core.specs.Call.{event_of, is_end};
 ghost use Rattle.node_core.specs.Node.{Stands, Tells};
 ghost use Rattle.node_core.specs.Law.{IsLawful};
 ghost use Rattle.node_core.specs.Logs.{dropped_log, logged};
@@ -80,12 +80,14 @@ impl Node {
     /// that nothing has taken back, and a delivery that is finished has its row.
     ///
     /// # Errors
-    /// Want of memory. The node is then as before, and what the call carried is lost.
+    /// Want of memory, but for the end of a fetch, of a refresh or of a delivery, which takes none. The node is then as
+    /// before, and what the call carried is lost.
     pub fn call(&mut self, alloc: Global, pass: u32, call: Call) -> Result<Reply, AllocError>
         ensures told { (made : Made) (h : History) → Stands self.old made h
             → IfOk result (λ r. Tells made h (pass, event_of call) r self.new) }
         ensures lawful { (made : Made) (h : History) → Stands self.old made h
             → IfOk result (λ r. IsLawful made h pass (event_of call) r) }
+        ensures ended { IsTrue (is_end (event_of call)) → IsOk result }
         ensures err { OnErr result (self.new ≡ self.old) }
     {
         a_hit_gives_what_one_fetch_brought();
@@ -98,6 +100,7 @@ impl Node {
     fn take_in(&mut self, alloc: Global, pass: u32, call: Call) -> Result<Reply, AllocError>
         ensures told { (made : Made) (h : History) → Stands self.old made h
             → IfOk result (λ r. Tells made h (pass, event_of call) r self.new) }
+        ensures ended { IsTrue (is_end (event_of call)) → IsOk result }
         ensures err { OnErr result (self.new ≡ self.old) }
     {
         match call {

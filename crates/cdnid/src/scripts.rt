@@ -1,7 +1,8 @@
 //! Scripts with the answers and the status that they must have: its name, its text, its answers, and its status's
 //! number.
 
-pub const SCRIPTS: [(&str, &str, &str, u8); 126] = [
+/// Scripts of metadata and of requests.
+pub const SCRIPTS: [(&str, &str, &str, u8); 78] = [
     ("an empty script", "", "", 0),
     (
         "no host",
@@ -440,6 +441,10 @@ pub const SCRIPTS: [(&str, &str, &str, u8); 126] = [
         "due 1\ninstalled 1\nmiss 1 1 acq1.ucdn.example:80 acq2.ucdn.example:80\ndenied 2 403 location -\nmiss 3 2 acq1.ucdn.example:80 acq2.ucdn.example:80\ndenied 4 403 protocol -\nmiss 5 3 acq1.ucdn.example:80 acq2.ucdn.example:80\nmiss 6 4 acq1.ucdn.example:80 acq2.ucdn.example:80\n",
         0,
     ),
+];
+
+/// Scripts of limits, fetches, kept objects, rows and log files.
+pub const NODE_SCRIPTS: [(&str, &str, &str, u8); 48] = [
     (
         "the object of a later fetch stays",
         "0 1000 refresh\n0 1000 meta 1 http://up.example/i {\"hosts\":[{\"host\":\"v.example\",\"host-metadata\":{\"metadata\":[{\"generic-metadata-type\":\"MI.SourceMetadata\",\"generic-metadata-value\":{\"sources\":[{\"endpoints\":[\"o.example\"],\"protocol\":\"http/1.1\"}]}}]}}]}\n0 2000 get GET http/1.1 192.0.2.7 as64496 us http://v.example/a\n0 2000 get GET http/1.1 192.0.2.7 as64496 us http://v.example/a\n0 2000 got 2 200 - 62\n0 2000 got 1 200 - 61\n0 2000 get GET http/1.1 192.0.2.7 as64496 us http://v.example/a\n",

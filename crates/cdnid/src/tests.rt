@@ -1,6 +1,6 @@
 //! What no clause says: worked scripts, the real streams, and that calls succeed where there is memory.
 
-use crate::scripts::SCRIPTS;
+use crate::scripts::{NODE_SCRIPTS, SCRIPTS};
 use edge_base::{
     Clock, ListClock, MemorySink, MemorySource, Put, Sink, Source, Status, StdSink, StdSource,
     SteadySink, SteadySource, Took, WallClock, write_counted,
@@ -66,6 +66,19 @@ fn any_cut_gives_the_same(rt: HostRuntime) -> Result<(), Fail> {
     let uneven = [7u64, 1, 100, 3, 2, 90, 1, 1, 5, 30];
     for (name, script, answers, status) in SCRIPTS {
         for portions in [ones.as_slice(), uneven.as_slice()] {
+            let (ended, written) = replayed(rt.alloc(), script, portions, portions)?;
+            assert_eq!(rt; ended.number(), status, "{name}");
+            assert_eq!(rt; written.as_slice(), answers.as_bytes(), "{name}");
+        }
+    }
+    Ok(())
+}
+
+#[test]
+fn scripts_of_the_node_have_their_answers_in_any_cut(rt: HostRuntime) -> Result<(), Fail> {
+    let ones = [1u64; 400];
+    for (name, script, answers, status) in NODE_SCRIPTS {
+        for portions in [[].as_slice(), ones.as_slice()] {
             let (ended, written) = replayed(rt.alloc(), script, portions, portions)?;
             assert_eq!(rt; ended.number(), status, "{name}");
             assert_eq!(rt; written.as_slice(), answers.as_bytes(), "{name}");

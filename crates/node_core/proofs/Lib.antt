@@ -1,3 +1,6 @@
+mod EndLemmas
 mod LawLemmas
 mod LogLemmas
 mod NodeLemmas
+mod QuietLemmas
+mod StateLemmas

@@ -1,5 +1,5 @@
-use Rattle.node_core.proofs.NodeLemmas.{admit_sound, admit_told}
-use Rattle.node_core.proofs.node.Node.admit.Goals as goal
+use Rattle.node_core.proofs.StateLemmas.{admit_sound, admit_told}
+use Rattle.node_core.proofs.state.State.admit.Goals as goal
 
 pub invariant_of-self-2 : goal.invariant_of-self-2
 invariant_of-self-2 c = admit_sound c.self.inside.edge c.self.inside.control c.self.inside.opened c.self.invariant _ c.args.pass c.args.asked c.args.place c.args.moment _ _ c.in_ok-admitted.ensures.reply c.in_ok-admitted.ensures.after c.opened_by.ensures

@@ -1,33 +1,27 @@
 -- What the calls leave open, and which replies they are answered.
-use Rattle.std.proofs.Common.{◌≡◌, ℕ, ◌+◌, ◌<◌, ◌≤◌, ◌==◌, ◌||◌, Bool, true, false, cond, not, List, [], ◌∷◌, ◌++◌, length, refl, sym, ap, ◌∙◌, subst, arith, None, Some, Option}
+use Rattle.std.proofs.Common.{◌≡◌, ℕ, ◌+◌, ◌<◌, ◌||◌, Bool, true, false, cond, not, List, [], ◌∷◌, length, refl, sym, ap, ◌∙◌, subst, arith, None, Some, Option}
 use Rattle.std.specs.List.{filter, find, list_any}
 use Rattle.std.specs.Option.{is_some}
-use Rattle.std.proofs.lemmas.List.{length-append}
-use Rattle.cdni_base.specs.declared.asked.Asked.{Asked}
 use Rattle.control_core.specs.Control.{ControlView}
 use Rattle.delivery_core.proofs.ListLemmas.{filter_shorter}
-use Rattle.delivery_core.specs.Edge.{EdgeView, admit_after, admit_after_by, admit_reply, admit_reply_by, begin_after, decision_of, entered, entered_reply, fetch_end_after, fetch_end_reply, finish_after, finish_reply, full_count, install_after, install_reply, newer, refresh_end_after, refresh_end_reply}
+use Rattle.delivery_core.specs.Edge.{EdgeView, fetch_end_after, fetch_end_reply, finish_after, finish_reply, install_after, install_reply, newer, refresh_end_after, refresh_end_reply}
 use Rattle.delivery_core.specs.Open.{is_named, unnamed}
+use Rattle.delivery_core.specs.OpenCount.{open_count}
 use Rattle.delivery_core.specs.Traces.{fetch_ended, finished, refresh_ended, reply_of}
-use Rattle.delivery_core.specs.declared.decision.Decision.{Decision}
-use Rattle.delivery_core.specs.declared.decision.Decision.TheVariants as decision
 use Rattle.delivery_core.specs.declared.open.Open.{Open}
 use Rattle.delivery_core.specs.declared.results.Admitted.{Admitted}
 use Rattle.delivery_core.specs.declared.results.Admitted.TheVariants as admitted
-use Rattle.delivery_core.specs.declared.results.Began.TheVariants as began
 use Rattle.delivery_core.specs.declared.results.RefreshEnded.{RefreshEnded}
 use Rattle.delivery_core.specs.declared.results.RefreshEnded.TheVariants as ended_as
 use Rattle.cdni_log.specs.declared.row.Row.{Row}
-use Rattle.history.specs.After.{admission}
 use Rattle.history.specs.declared.begun.Admission.{Admission}
 use Rattle.history.specs.declared.begun.Fetching.{Fetching}
 use Rattle.history.specs.declared.reply.Reply.{Reply}
-use Rattle.location_acl.specs.declared.footprint.Place.{Place}
 use Rattle.metadata_objects.specs.Tree.{TreeData}
 use Rattle.node_core.proofs.StateLemmas.{state}
 use Rattle.node_core.specs.Answers.{answers_admit, answers_drop_log, answers_fetch_end, answers_finish, answers_log_file, answers_refresh_end}
 use Rattle.node_core.specs.Logs.{dropped_log, logged}
-use Rattle.node_core.specs.State.{Ends, begun_count, is_not_open, open_count}
+use Rattle.node_core.specs.State.{Ends, is_not_open}
 use Rattle.upstream_gate.specs.declared.outcome.Outcome.{Outcome}
 
 -- ---- lists
@@ -44,9 +38,9 @@ shorter : {A : Type 0} (test : A → Bool) (xs : List A) → is_some (find test 
 shorter test [] is = absurd (cc)
 shorter test (x ∷ xs) is =
     elim (test x) as (λ t. is_some (cond t (Some x) (find test xs)) ≡ true → length (cond (not t) (x ∷ filter (λ x. not (test x)) xs) (filter (λ x. not (test x)) xs)) < length (x ∷ xs)) [
-  | true ↦ λ _. let rest = filter_shorter (λ x. not (test x)) xs in omega (arith, rest)
-  | false ↦ λ found. let rest = shorter test xs found in omega (arith, rest)
-] is
+      | true ↦ λ _. let rest = filter_shorter (λ x. not (test x)) xs in omega (arith, rest)
+      | false ↦ λ found. let rest = shorter test xs found in omega (arith, rest)
+    ] is
 
 -- ---- ends
 
@@ -124,28 +118,6 @@ module _ (edge edge' : EdgeView) (control : ControlView) (origin : List ℕ) (op
   refresh_ends pass refresh tree ended r is left answer =
       subst (λ t. Ends (state edge control origin opened) (state edge' control origin opened) t r) (sym (any_found (is_named refresh pass) edge.refreshes))
       (refresh_by pass refresh tree (find (is_named refresh pass) edge.refreshes) refl ended r is left answer)
-
--- ---- what is opened
-
-module _ (edge : EdgeView) (pass : ℕ) where
-  entered_places : (what : Admission) (d : Decision) → open_count (entered edge pass what d) ≤ open_count edge + begun_count (reply_of (entered_reply edge d))
-  entered_places what (decision.Deny rule) = omega (arith, length-append edge.deliveries (record { number = edge.delivered + 1; pass = pass; what = what } ∷ []))
-  entered_places what (decision.Hit key ccid found) = omega (arith, length-append edge.deliveries (record { number = edge.delivered + 1; pass = pass; what = record what { ccid = ccid; cached = true } } ∷ []))
-  entered_places what (decision.Miss key ccid plan) =
-      omega (arith, length-append edge.deliveries (record { number = edge.delivered + 1; pass = pass; what = record what { ccid = ccid; cached = false } } ∷ []),
-      length-append edge.fetches (record { number = edge.fetched + 1; pass = pass; what = record { key = key; ccid = ccid } } ∷ []))
-
-  admitted_places : (what : Admission) (d : Decision) (full : Option ℕ) → open_count (admit_after_by edge pass what d full) ≤ open_count edge + begun_count (reply_of (admit_reply_by edge d full))
-  admitted_places what d (Some count) = omega arith
-  admitted_places what d None = entered_places what d
-
-  pub admit_places : (edge' : EdgeView) (opened : ℕ) (asked : Asked) (place : Place) (moment : ℕ) (a : Admitted) (r : Reply) → a ≡ admit_reply edge opened asked place moment
-      → edge' ≡ admit_after edge pass opened asked place moment → r ≡ reply_of a → open_count edge' ≤ open_count edge + begun_count r
-  admit_places edge' opened asked place moment a r is left answer =
-      rw (left, answer, is) (admitted_places (admission asked place moment None false) (decision_of edge asked place moment) (full_count edge opened))
-
-  pub due_places : (edge' : EdgeView) (moment refresh : ℕ) → edge' ≡ begin_after edge pass moment (began.Due refresh) → open_count edge' ≤ open_count edge + 1
-  due_places edge' moment refresh left = rw left (omega (arith, length-append edge.refreshes (record { number = refresh; pass = pass; what = moment } ∷ [])))
 
 -- ---- which replies
 

@@ -1,4 +1,5 @@
 mod EndLemmas
+mod HomeLemmas
 mod LawLemmas
 mod LogLemmas
 mod NodeLemmas

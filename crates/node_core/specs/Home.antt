@@ -30,10 +30,10 @@ AreOthers number [] = Unit {0}
 AreOthers number (entry ∷ entries) = (entry.0 ≡ number → ⊥) × AreOthers number entries
 
 -- after other passes' entries the call is answered as the history before it says, and that history and the call are seen
-pub record IsAnswered (who : Who) (h : History) (event : Event) (answer : Reply) (sees : History → Type 0) : Type 0 where
+pub record IsAnswered (who : Who) (h : History) (event : Event) (given : Reply) (sees : History → Type 0) : Type 0 where
   pub others : History
   pub are_others : AreOthers who.number others
-  pub answer : answer ≡ reply_to who.made (h ++ others) (who.number, event)
+  pub answer : given ≡ reply_to who.made (h ++ others) (who.number, event)
   pub seen : sees ((h ++ others) ++ (who.number, event) ∷ [])
 
 -- nothing but other passes' entries is seen since

@@ -5,6 +5,7 @@ use Rattle.control_core.specs.Control.{ControlView}
 use Rattle.delivery_core.specs.Edge.{EdgeView}
 use Rattle.delivery_core.specs.Traces.{edge_of, HasNoTriggers}
 use Rattle.delivery_core.specs.Open.{is_named}
+use Rattle.delivery_core.specs.OpenCount.{open_count}
 use Rattle.history.specs.Event.{Entry, Event, History, FetchEnd, Finish, RefreshEnd}
 use Rattle.history.specs.History.{reply_to, world_of}
 use Rattle.history.specs.World.{Made, World}
@@ -46,24 +47,12 @@ Says made h entry answer v = (answer ≡ reply_to made h entry) × Follows v mad
 
 -- ---- what is open
 
--- how many deliveries, fetches and refreshes are open
-abbrev pub open_count : EdgeView → ℕ
-open_count v = length v.deliveries + length v.fetches + length v.refreshes
-
 -- this pass ends what it has open
 abbrev pub ends_open : EdgeView → ℕ → Event → Bool
 ends_open v pass (FetchEnd fetch outcome moment) = list_any (is_named fetch pass) v.fetches
 ends_open v pass (RefreshEnd refresh tree moment) = list_any (is_named refresh pass) v.refreshes
 ends_open v pass (Finish delivery status total entity moment) = list_any (is_named delivery pass) v.deliveries
 ends_open v pass event = false
-
--- how many of them a reply opens
-abbrev pub begun_count : Reply → ℕ
-begun_count (reply.Denied delivery rule) = 1
-begun_count (reply.Hit delivery fetch kind body) = 1
-begun_count (reply.Miss delivery fetch plan) = 2
-begun_count (reply.Due refresh) = 1
-begun_count answer = 0
 
 abbrev pub is_not_open : Reply → Bool
 is_not_open (reply.NotOpen number) = true

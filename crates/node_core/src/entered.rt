@@ -72,32 +72,32 @@ pub(crate) fn copied(alloc: Global, call: &Call) -> Result<Call, AllocError>
     requires commands { is_command (event_of call.now) ≡ false }
     ensures { IfOk result (λ copy. event_of copy ≡ stripped_event (event_of call.now)) }
 {
-    Ok(match call {
+    match call {
         Call::Admit {
             asked,
             place,
             moment,
-        } => Call::Admit {
+        } => Ok(Call::Admit {
             asked: asked.clone()?,
             place: *place,
             moment: *moment,
-        },
-        Call::RefreshBegin { moment } => Call::RefreshBegin { moment: *moment },
-        Call::Advance { id, moment } => Call::Advance {
+        }),
+        Call::RefreshBegin { moment } => Ok(Call::RefreshBegin { moment: *moment }),
+        Call::Advance { id, moment } => Ok(Call::Advance {
             id: *id,
             moment: *moment,
-        },
-        Call::Cancel { ids, moment } => Call::Cancel {
+        }),
+        Call::Cancel { ids, moment } => Ok(Call::Cancel {
             ids: ids.clone()?,
             moment: *moment,
-        },
-        Call::Delete { id } => Call::Delete { id: *id },
-        Call::ReadStatus { id } => Call::ReadStatus { id: *id },
-        Call::List { filter } => Call::List { filter: *filter },
-        Call::Cut { moment } => Call::Cut { moment: *moment },
-        Call::LogFile { number } => Call::LogFile { number: *number },
-        Call::ListLogs => Call::ListLogs,
-        Call::DropLog { number } => Call::DropLog { number: *number },
+        }),
+        Call::Delete { id } => Ok(Call::Delete { id: *id }),
+        Call::ReadStatus { id } => Ok(Call::ReadStatus { id: *id }),
+        Call::List { filter } => Ok(Call::List { filter: *filter }),
+        Call::Cut { moment } => Ok(Call::Cut { moment: *moment }),
+        Call::LogFile { number } => Ok(Call::LogFile { number: *number }),
+        Call::ListLogs => Ok(Call::ListLogs),
+        Call::DropLog { number } => Ok(Call::DropLog { number: *number }),
         _ => unreachable!(),
-    })
+    }
 }

@@ -1,6 +1,7 @@
 //! Homes: what a pass calls the node through.
 
-ghost use Rattle.std.specs.Prelude.{◌≡◌, ℕ, List, false, true, IfOk, IsOk, MatchResult};
+ghost use Rattle.std.specs.Prelude.{◌≡◌, false, true, refl, IfOk, IsOk, MatchResult};
+ghost use Rattle.std.proofs.Common.{◌∙◌};
 ghost use Rattle.history.specs.Event.{History, event_of};
 ghost use Rattle.history.specs.World.{Made};
 ghost use Rattle.node_core.specs.Answers.{answers};

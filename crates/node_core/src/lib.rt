@@ -1,10 +1,10 @@
 //! The node that stands for a history of calls: each call is answered as the history before it says.
 #![tactic(auto)]
 
-mod state;
 mod entered;
 mod home;
 mod node;
+mod state;
 
 pub use entered::Entered;
 pub use history::{Call, Reply};

@@ -1,17 +1,18 @@
 //! The node: one call after the other.
 
-ghost use Rattle.std.specs.Prelude.{◌≡◌, ◌+◌, ◌<◌, ◌≤◌, [], ◌∷◌, ◌++◌, true, false, IfOk, IsOk, OnErr, OnOk};
+ghost use Rattle.std.specs.Prelude.{◌≡◌, ◌+◌, ◌^◌, ◌<◌, ◌≤◌, [], ◌∷◌, ◌++◌, true, false, IfOk, IsOk, OnErr, OnOk};
 ghost use Rattle.history.specs.Event.{History, event_of};
 ghost use Rattle.history.specs.World.{Made};
 ghost use Rattle.node_core.specs.Answers.{answers};
 ghost use Rattle.node_core.specs.Call.{is_command, is_end};
-ghost use Rattle.node_core.specs.State.{begun_count, ends_open, is_not_open};
+ghost use Rattle.delivery_core.specs.OpenCount.{begun_count};
+ghost use Rattle.node_core.specs.State.{ends_open, is_not_open};
 ghost use Rattle.node_core.specs.Home.{EndsOpen};
 ghost use Rattle.node_core.specs.Law.{IsLawful};
 ghost use Rattle.node_core.specs.Node.{Stands, Tells};
 
-use crate::state::State;
 use crate::entered::{Entered, copied, is_end, stripped};
+use crate::state::State;
 use cdni_base::{Limits, Text};
 use delivery_law::fetches::{a_hit_gives_what_one_fetch_brought, a_miss_begins_its_own_fetch};
 use delivery_law::log_rows::each_row_belongs_to_one_finish_and_one_admit;
@@ -36,10 +37,21 @@ pub struct Node {
 impl Model for Node {
     ghost use Rattle.std.specs.Prelude.{◌≤◌, map};
     ghost use Rattle.node_core.specs.Call.{entry_of};
-    ghost use Rattle.node_core.specs.State.{open_count};
+    ghost use Rattle.delivery_core.specs.OpenCount.{open_count};
     ghost use Rattle.node_core.specs.Node.{NodeView};
 
     ghost Value = { NodeView };
+
+    ghost use Rattle.std.specs.Coded.{codes, coded_list, coded×, coded_ℕ};
+    ghost use Rattle.metadata_objects.specs.Coding.{level_code};
+    ghost use Rattle.metadata_objects.specs.contracts.generic.Generic as generic;
+    ghost use Rattle.pattern_match.specs.contracts.pattern.Pattern as pattern;
+
+    ghost coded = { Prim.hlevel (
+      codes,
+      level_code (coded_list (coded× pattern.the_row.coded (coded×
+          (coded_list generic.the_row.coded) coded_ℕ))),
+    ) };
 
     ghost view = { λ n. record {
       made = record { limits = n.limits; origin = n.state.origin };
@@ -160,6 +172,7 @@ fn reserve(
     more: usize,
 ) -> Result<(), AllocError>
     ensures places { OnOk result (places + more ≤ journal.new.spare) }
+    ensures fits { OnOk result (places + more < 2 ^ 64) }
     ensures no_fewer { journal.old.spare ≤ journal.new.spare }
     ensures stored { journal.new.stored ≡ journal.old.stored }
 {
@@ -196,7 +209,8 @@ fn take_place(
 
 // how many deliveries, fetches and refreshes a reply opens
 fn begun_count(reply: &Reply) -> usize
-    ensures { result ≡ begun_count reply.now }
+    ensures count { result ≡ begun_count reply.now }
+    ensures few { result ≤ 2 }
 {
     match reply {
         Reply::Denied { .. } | Reply::Hit { .. } | Reply::Due { .. } => 1,

@@ -11,7 +11,8 @@ ghost use Rattle.metadata_objects.specs.Tree.{tree_view};
 ghost use Rattle.history.specs.World.{Made};
 ghost use Rattle.node_core.specs.Answers.{answers, answers_admit, answers_cut, answers_drop_log, answers_finish, answers_fetch_end, answers_list_logs, answers_log_file, answers_refresh_begin, answers_refresh_end};
 ghost use Rattle.node_core.specs.Call.{is_command, is_end};
-ghost use Rattle.node_core.specs.State.{begun_count, cancel_of_none, ends_open, open_count, Ends, Follows, Says};
+ghost use Rattle.delivery_core.specs.OpenCount.{begun_count, open_count};
+ghost use Rattle.node_core.specs.State.{cancel_of_none, ends_open, Ends, Follows, Says};
 ghost use Rattle.node_core.specs.Logs.{dropped_log, logged};
 
 use cdni_base::{Asked, Limits, Moment, Text};

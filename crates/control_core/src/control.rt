@@ -1,6 +1,6 @@
 //! The log files that are kept.
 
-ghost use Rattle.std.specs.Prelude.{◌≡◌, ◌≤◌, ◌^◌, ◌+◌, [], IfOk, OnErr, OnOk, length, map, not, ◌==◌};
+ghost use Rattle.std.specs.Prelude.{◌≡◌, ◌≤◌, ◌^◌, ◌+◌, [], Ok, IfOk, OnErr, OnOk, length, map, not, ◌==◌};
 ghost use Rattle.std.specs.List.{filter, list_any};
 ghost use Rattle.std.specs.Option.{option_map};
 ghost use Rattle.control_core.specs.Control.{empty, file_reply, file_after, text_at, has_number};
@@ -42,7 +42,7 @@ impl Control {
 
     /// No file is kept. It takes no memory, and does not fail.
     pub fn new(alloc: Global, limits: &Limits) -> Result<Control, AllocError>
-        ensures { IfOk result (λ control. control ≡ empty limits.now) }
+        ensures { result ≡ Ok (empty limits.now) }
     {
         Ok(Control {
             files: Vec::new(alloc),

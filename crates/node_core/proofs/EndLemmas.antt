@@ -1,5 +1,5 @@
 -- What the calls leave open, and which replies they are answered.
-use Rattle.std.proofs.Common.{◌≡◌, ℕ, ◌+◌, ◌<◌, ◌||◌, Bool, true, false, cond, not, List, [], ◌∷◌, length, refl, sym, ap, ◌∙◌, subst, arith, None, Some, Option}
+use Rattle.std.proofs.Common.{◌≡◌, ℕ, ◌+◌, ◌<◌, ◌||◌, Bool, true, false, cond, not, List, [], ◌∷◌, length, refl, sym, ap, ◌∙◌, subst, arith, None, Some, Option, Result, Ok}
 use Rattle.std.specs.List.{filter, find, list_any}
 use Rattle.std.specs.Option.{is_some}
 use Rattle.control_core.specs.Control.{ControlView}
@@ -23,6 +23,9 @@ use Rattle.node_core.specs.Answers.{answers_admit, answers_drop_log, answers_fet
 use Rattle.node_core.specs.Logs.{dropped_log, logged}
 use Rattle.node_core.specs.State.{Ends, is_not_open}
 use Rattle.upstream_gate.specs.declared.outcome.Outcome.{Outcome}
+
+pub same_ok : {A E : Type 0} {a b : A} → ◌≡◌ {A = Result A E} (Ok a) (Ok b) → a ≡ b
+same_ok is = cc
 
 -- ---- lists
 

@@ -1,5 +1,5 @@
 -- What the calls of log files tell of a node's history.
-use Rattle.std.proofs.Common.{◌≡◌, ℕ, ◌+◌, ◌<◌, ◌==◌, ◌||◌, Bool, true, false, cond, not, List, [], ◌∷◌, ◌++◌, length, map, refl, sym, ap, ◌∙◌, subst, arith, None, Some, Option, Result, Ok, Err, IfOk}
+use Rattle.std.proofs.Common.{◌≡◌, ℕ, ◌+◌, ◌<◌, ◌==◌, Bool, true, false, cond, not, List, [], ◌∷◌, ◌++◌, length, map, refl, sym, ap, ◌∙◌, subst, arith, None, Some, Option, Result, Ok, Err, IfOk}
 use Rattle.std.specs.declared.alloc.AllocError.{AllocError}
 use Rattle.std.specs.List.{filter, find, list_any}
 use Rattle.std.specs.Option.{is_some, option_map}
@@ -22,6 +22,7 @@ use Rattle.history.specs.Reply.{reply_in}
 use Rattle.history.specs.World.{Filed, Made, Recorded, World}
 use Rattle.history.specs.declared.reply.Reply.{Reply}
 use Rattle.history.specs.declared.reply.Reply.TheVariants as reply
+use Rattle.node_core.proofs.EndLemmas.{any_found}
 use Rattle.node_core.proofs.StateLemmas.{after_opens, control_by, control_kept, left_by, same_opened, state, told}
 use Rattle.node_core.specs.Logs.{control_of, dropped_log, file_in, logged}
 use Rattle.node_core.specs.State.{IsSound, Follows, Says}
@@ -37,13 +38,6 @@ head_of number moment origin = record { number = number; moment = moment; origin
 none_of : {A : Type 0} (xs : List A) → length xs ≡ 0 → xs ≡ []
 none_of [] is = refl
 none_of (x ∷ xs) is = absurd (omega (arith, is))
-
-any_found : {A : Type 0} (test : A → Bool) (xs : List A) → list_any test xs ≡ is_some (find test xs)
-any_found test [] = refl
-any_found test (x ∷ xs) = elim (test x) as (λ t. (t || list_any test xs) ≡ is_some (cond t (Some x) (find test xs))) [
-  | true ↦ refl
-  | false ↦ any_found test xs
-]
 
 some_map : {A B : Type 0} (f : A → B) (o : Option A) → is_some (option_map f o) ≡ is_some o
 some_map f None = refl

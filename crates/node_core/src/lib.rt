@@ -5,6 +5,8 @@ mod entered;
 mod home;
 mod node;
 mod state;
+#[cfg(test)]
+mod tests;
 
 pub use entered::Entered;
 pub use history::{Call, Reply};

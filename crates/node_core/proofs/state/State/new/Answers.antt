@@ -1,5 +1,6 @@
+use Rattle.node_core.proofs.EndLemmas.{same_ok}
 use Rattle.node_core.proofs.StateLemmas.{stands_at_start}
 use Rattle.node_core.proofs.state.State.new.Goals as goal
 
 pub returns : goal.returns
-returns c = stands_at_start (record { limits = c.args.limits.now; origin = c.args.origin }) _ _ c.in_ok-new.ensures c.in_ok-new-2.ensures
+returns c = stands_at_start (record { limits = c.args.limits.now; origin = c.args.origin }) _ _ c.in_ok-new.ensures (same_ok c.in_ok-new-2.ensures)

@@ -5,8 +5,6 @@ mod entered;
 mod home;
 mod node;
 mod state;
-#[cfg(test)]
-mod tests;
 
 pub use entered::Entered;
 pub use history::{Call, Reply};

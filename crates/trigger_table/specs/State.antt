@@ -142,3 +142,12 @@ abbrev pub cancelled_status : JobStatus → JobStatus
 cancelled_status status.Pending = status.Cancelled
 cancelled_status status.Active = status.Cancelling
 cancelled_status other = other
+
+-- the end of a fetch that it may wait for
+abbrev pub fetch_ended_in : ℕ → Bool → Trigger → Trigger
+fetch_ended_in fetch good trigger = if history.awaits_fetch fetch trigger.awaited then history.fetched good trigger else trigger
+
+-- the end of a refresh that it may wait for
+abbrev pub refresh_ended_in : ℕ → Bool → Trigger → Trigger
+refresh_ended_in refresh good trigger =
+    if history.awaits_refresh refresh trigger.awaited then history.refreshed good trigger else trigger

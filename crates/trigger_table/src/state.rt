@@ -55,7 +55,7 @@ impl TriggerState {
     ghost use Rattle.history.specs.After.{commanded};
     ghost use Rattle.history.specs.Steps.{active_step, claimed_step, ended, ends_as, free_step, own_step, started, step_of, url_place, with_status};
     ghost use Rattle.history.specs.Steps.{fetched, refreshed};
-    ghost use Rattle.trigger_table.specs.State.{cancel_of, cancelled_status, entered_at, last_of, opened_by, seen, step_ended, step_made, stepped, HasTurn, GoesOn};
+    ghost use Rattle.trigger_table.specs.State.{cancel_of, cancelled_status, entered_at, fetch_ended_in, refresh_ended_in, last_of, opened_by, seen, step_ended, step_made, stepped, HasTurn, GoesOn};
 
     /// A trigger that was just commanded.
     ///
@@ -224,9 +224,33 @@ impl TriggerState {
         ensures id { self.new.job.id ≡ self.old.job.id }
     {
         match self.opened {
-            Some(Opened::Fetch(_)) => self.fetch_ended(good),
-            Some(Opened::Refresh(_)) => self.refresh_ended(good),
+            Some(Opened::Fetch(_)) => self.own_fetch_ended(good),
+            Some(Opened::Refresh(_)) => self.own_refresh_ended(good),
             None => self.skip(good),
+        }
+    }
+
+    /// A fetch has ended, and brought its content or did not. Nothing changes unless it waits for that fetch. It takes no
+    /// memory.
+    pub fn fetch_ended(&mut self, fetch: u64, good: bool)
+        ensures after { self.new ≡ fetch_ended_in fetch good self.old }
+        ensures id { self.new.job.id ≡ self.old.job.id }
+    {
+        match self.opened {
+            Some(Opened::Fetch(number)) if number == fetch => self.own_fetch_ended(good),
+            _ => {}
+        }
+    }
+
+    /// A refresh has ended, and installed its metadata or did not. Nothing changes unless it waits for that refresh. It
+    /// takes no memory.
+    pub fn refresh_ended(&mut self, refresh: u64, good: bool)
+        ensures after { self.new ≡ refresh_ended_in refresh good self.old }
+        ensures id { self.new.job.id ≡ self.old.job.id }
+    {
+        match self.opened {
+            Some(Opened::Refresh(number)) if number == refresh => self.own_refresh_ended(good),
+            _ => {}
         }
     }
 
@@ -286,7 +310,7 @@ impl TriggerState {
     }
 
     // the fetch of its last step brought its content, or did not
-    fn fetch_ended(&mut self, good: bool)
+    fn own_fetch_ended(&mut self, good: bool)
         requires { length self.old.job.econtent < url_place self.old }
         ensures { self.new ≡ fetched good self.old }
     {
@@ -299,7 +323,7 @@ impl TriggerState {
     }
 
     // the refresh of its first step installed its metadata, or did not
-    fn refresh_ended(&mut self, good: bool)
+    fn own_refresh_ended(&mut self, good: bool)
         ensures { self.new ≡ refreshed good self.old }
     {
         if !good {
@@ -317,8 +341,8 @@ impl TriggerState {
             return;
         }
         match self.last_step() {
-            LastStep::Metadata => self.refresh_ended(false),
-            LastStep::Url => self.fetch_ended(false),
+            LastStep::Metadata => self.own_refresh_ended(false),
+            LastStep::Url => self.own_fetch_ended(false),
             LastStep::Other => {}
         }
     }

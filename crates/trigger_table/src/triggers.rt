@@ -1,8 +1,9 @@
 //! The triggers that are not deleted.
 
 ghost use Rattle.std.specs.Prelude.{◌≡◌, ◌+◌, ◌^◌, ◌≤◌, [], Ok, IfOk, OnErr, MatchOption, option_map, is_some, length};
+ghost use Rattle.history.specs.After.{ended_fetch, ended_refresh};
 ghost use Rattle.history.specs.Steps.{is_listed, listed};
-ghost use Rattle.trigger_table.specs.Triggers.{IsAbsent, IsAt};
+ghost use Rattle.trigger_table.specs.Triggers.{IsAbsent, IsAt, ids_of};
 
 use crate::state::TriggerState;
 use crate::step::Step;
@@ -150,6 +151,22 @@ impl Triggers {
         }
     }
 
+    /// A fetch has ended, and brought its content or did not: what waits for it goes on. It takes no memory, and a step for
+    /// each trigger.
+    pub fn fetch_ended(&mut self, fetch: u64, good: bool)
+        ensures { self.new ≡ with_triggers self.old (ended_fetch fetch good self.old.triggers) }
+    {
+        end_fetch(&mut self.items, fetch, good);
+    }
+
+    /// A refresh has ended, and installed its metadata or did not: what waits for it goes on. It takes no memory, and a
+    /// step for each trigger.
+    pub fn refresh_ended(&mut self, refresh: u64, good: bool)
+        ensures { self.new ≡ with_triggers self.old (ended_refresh refresh good self.old.triggers) }
+    {
+        end_refresh(&mut self.items, refresh, good);
+    }
+
     /// Cancels the triggers of these numbers at this moment: one that is pending at once, one that is active with its
     /// next step, and no other. The answer is their statuses then, in the order of the numbers; or the first number
     /// that no trigger has, and then nothing has changed.
@@ -263,6 +280,26 @@ impl Triggers {
             }
             None => false,
         }
+    }
+}
+
+// ends this fetch for those that wait for it
+fn end_fetch(items: &mut [TriggerState], fetch: u64, good: bool)
+    ensures after { items.new ≡ ended_fetch fetch good items.old }
+    ensures ids { ids_of items.new ≡ ids_of items.old }
+{
+    'states: for state in items.iter_mut() {
+        state.fetch_ended(fetch, good);
+    }
+}
+
+// ends this refresh for those that wait for it
+fn end_refresh(items: &mut [TriggerState], refresh: u64, good: bool)
+    ensures after { items.new ≡ ended_refresh refresh good items.old }
+    ensures ids { ids_of items.new ≡ ids_of items.old }
+{
+    'states: for state in items.iter_mut() {
+        state.refresh_ended(refresh, good);
     }
 }
 

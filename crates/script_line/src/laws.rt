@@ -1,8 +1,8 @@
 //! What the grammar of scripts means, as laws above it. Each function does nothing: its contract is the law.
 
 ghost use Rattle.std.specs.Prelude.{◌≡◌, ℕ, ◌↔◌, List, Some};
-ghost use Rattle.replay_script.specs.Call.{Said};
-ghost use Rattle.replay_script.specs.Grammar.{Says, line_of};
+ghost use Rattle.script_line.specs.Line.{Said};
+ghost use Rattle.script_line.specs.Grammar.{Says, line_of};
 
 /// A line of a script says one thing at most.
 pub fn a_line_says_one_thing()

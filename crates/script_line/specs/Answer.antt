@@ -3,7 +3,14 @@ use Rattle.std.specs.Prelude.{ℕ, Bool, true, false, List, [], ◌∷◌, ◌++
 use Rattle.std.specs.List.{flat_map}
 use Rattle.std.specs.declared.option.Option.{Option}
 use Rattle.cdni_base.specs.Rule.{rule_status, rule_text}
+use Rattle.targets.specs.Target.{url_text}
 use Rattle.targets.specs.declared.endpoint.Endpoint.{Endpoint}
+use Rattle.targets.specs.declared.target.Target.{Target}
+use Rattle.trigger_status.specs.Collection.{collection_text}
+use Rattle.trigger_status.specs.Job.{job_text, status_name}
+use Rattle.trigger_status.specs.declared.job.Filter.{Filter}
+use Rattle.trigger_status.specs.declared.job.JobStatus.{JobStatus}
+use Rattle.script_line.specs.Own.{own_id, control_host}
 use Rattle.json_read.specs.declared.fault.FieldCause.{FieldCause}
 use Rattle.json_read.specs.declared.fault.FieldCause.TheVariants.{Missing, WrongKind, OutOfRange}
 use Rattle.metadata_objects.specs.declared.fault.MetaFault.{MetaFault}
@@ -13,8 +20,8 @@ use Rattle.targets.specs.declared.target.TheConstants.{HTTP_PORT}
 use Rattle.hex.specs.Hex.{encode_lower}
 use Rattle.history.specs.declared.reply.Reply.{Reply}
 use Rattle.history.specs.declared.reply.Reply.TheVariants as reply
-use Rattle.replay_script.specs.declared.grammar.TheConstants.{SPACE}
-use Rattle.replay_script.specs.declared.step.TheConstants.{LINE_FEED}
+use Rattle.script_line.specs.declared.grammar.TheConstants.{SPACE}
+use Rattle.script_line.specs.declared.answer.TheConstants.{LINE_FEED}
 
 -- a word, a space and a number, ended
 abbrev pub numbered : List ℕ → ℕ → List ℕ
@@ -68,19 +75,54 @@ ended_text true = codes "ended kept\n"
 ended_text false = codes "ended\n"
 
 -- a comma and a number
-abbrev pub more_word : ℕ → List ℕ
-more_word number = codes "," ++ decimal number
+abbrev pub more_number : ℕ → List ℕ
+more_number number = codes "," ++ decimal number
 
 -- numbers joined by commas, `-` where there are none
 abbrev pub numbers_word : List ℕ → List ℕ
 numbers_word [] = codes "-"
-numbers_word (number ∷ numbers) = decimal number ++ flat_map more_word numbers
+numbers_word (number ∷ numbers) = decimal number ++ flat_map more_number numbers
 
 -- how many bytes the text has, and the text
 abbrev pub log_text : List ℕ → List ℕ
 log_text text = numbered (codes "text") (length text) ++ text ++ LINE_FEED ∷ []
 
--- the answer of a reply, where this was noted of the call; no line of a script brings the replies that are not named yet
+-- a comma and the name of a status
+abbrev pub more_status : JobStatus → List ℕ
+more_status status = codes "," ++ status_name status
+
+-- the names of statuses joined by commas, `-` where there are none
+abbrev pub statuses_word : List JobStatus → List ℕ
+statuses_word [] = codes "-"
+statuses_word (status ∷ statuses) = status_name status ++ flat_map more_status statuses
+
+-- a fetch, its URL and its plan
+unfoldable pub fetch_line : ℕ → List Endpoint → Target → List ℕ
+fetch_line fetch plan target =
+    codes "fetch " ++ decimal fetch ++ SPACE ∷ [] ++ url_text false target ++ plan_text plan ++ LINE_FEED ∷ []
+
+-- a collection of the triggers of a script
+abbrev pub scripted_collection : Filter → List ℕ → List ℕ
+scripted_collection filter ids = collection_text ids filter own_id control_host
+
+-- the answer of a reply that speaks of triggers
+unfoldable pub trigger_line : Reply → List ℕ
+trigger_line (reply.Created id) = numbered (codes "created") id
+trigger_line reply.Started = codes "started\n"
+trigger_line (reply.Fetch fetch plan target) = fetch_line fetch plan target
+trigger_line (reply.Refresh refresh) = numbered (codes "refresh") refresh
+trigger_line (reply.Skipped index) = numbered (codes "skipped") index
+trigger_line (reply.Final status) = codes "final " ++ status_name status ++ LINE_FEED ∷ []
+trigger_line (reply.Claimed pass) = numbered (codes "claimed") pass
+trigger_line (reply.StepOpen number) = numbered (codes "step-open") number
+trigger_line (reply.Unknown id) = numbered (codes "unknown") id
+trigger_line (reply.Statuses list) = codes "statuses " ++ statuses_word list ++ LINE_FEED ∷ []
+trigger_line reply.Deleted = codes "deleted\n"
+trigger_line (reply.Resource job) = codes "resource " ++ job_text job ++ LINE_FEED ∷ []
+trigger_line (reply.Collection filter ids) = codes "collection " ++ scripted_collection filter ids ++ LINE_FEED ∷ []
+trigger_line answer = []
+
+-- the answer of a reply, where this was noted of the call
 unfoldable pub answer_line : Reply → Option MetaFault → List ℕ
 answer_line (reply.Denied delivery rule) said =
     codes "denied " ++ decimal delivery ++ SPACE ∷ [] ++ decimal
@@ -97,6 +139,7 @@ answer_line (reply.Logged row) said = numbered (codes "logged") row
 answer_line (reply.Due refresh) said = numbered (codes "due") refresh
 answer_line (reply.NotDue next) said = numbered (codes "not-due") next
 answer_line (reply.Installed generation) said = numbered (codes "installed") generation
+answer_line (reply.Stale trigger) said = numbered (codes "stale") trigger
 answer_line (reply.Older refresh) said = numbered (codes "older") refresh
 answer_line reply.Failed said = failed_line said
 answer_line (reply.File number) said = numbered (codes "file") number
@@ -104,5 +147,4 @@ answer_line reply.NothingToCut said = codes "nothing-to-cut\n"
 answer_line (reply.LogText text) said = log_text text
 answer_line (reply.Numbers list) said = codes "logs " ++ numbers_word list ++ LINE_FEED ∷ []
 answer_line reply.Dropped said = codes "dropped\n"
-answer_line (reply.Unknown id) said = numbered (codes "unknown") id
-answer_line answer said = []
+answer_line answer said = trigger_line answer

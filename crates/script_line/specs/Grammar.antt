@@ -28,8 +28,8 @@ use Rattle.hex.specs.Hex.{decode_of}
 use Rattle.cdni_base.specs.Limits.{Bounds, AreInRange}
 use Rattle.cdni_base.specs.declared.type_name.TheConstants.{TYPE_NAME_MAX}
 use Rattle.history.specs.Event.{Event, RefreshBegin, RefreshEnd, Admit, FetchEnd, Finish, Cut, LogFile, ListLogs, DropLog}
-use Rattle.replay_script.specs.Call.{Noted, Said, Scripted, Sets, Calls}
-use Rattle.replay_script.specs.declared.grammar.TheConstants.{SPACE, BAR, LONGEST_METHOD}
+use Rattle.script_line.specs.Line.{Noted, Said, Scripted, Sets, Calls, on_pass}
+use Rattle.script_line.specs.declared.grammar.TheConstants.{SPACE, BAR, LONGEST_METHOD}
 
 -- a decimal number below the bound, without leading zeros
 unfoldable pub number_below : ℕ → List ℕ → Option ℕ
@@ -192,11 +192,13 @@ log_of text = option_map LogFile (number_of text)
 abbrev pub droplog_of : List ℕ → Option Event
 droplog_of text = option_map DropLog (number_of text)
 
--- a word that speaks of records, and what stands behind it
-unfoldable pub of_record : ℕ → List ℕ → List ℕ → Option Event
-of_record moment word behind = if bytes_eq word (codes "finish") then finish_of moment behind
+-- a word that numbers follow, and what stands behind it
+unfoldable pub of_numbers : ℕ → List ℕ → List ℕ → Option Event
+of_numbers moment word behind = if bytes_eq word (codes "finish") then finish_of moment behind
+    else (if bytes_eq word (codes "lost") then lost_of moment behind
+    else (if bytes_eq word (codes "metafail") then metafail_of moment behind
     else (if bytes_eq word (codes "log") then log_of behind
-    else (if bytes_eq word (codes "droplog") then droplog_of behind else None))
+    else (if bytes_eq word (codes "droplog") then droplog_of behind else None))))
 
 -- a call of one word
 unfoldable pub bare_of : ℕ → List ℕ → Option Event
@@ -208,12 +210,10 @@ bare_of moment text = if bytes_eq text (codes "refresh") then Some (RefreshBegin
 
 -- a word and what stands after the space behind it
 abbrev pub worded : ℕ → List ℕ × List ℕ → Option Noted
-worded moment word = if bytes_eq word.0 (codes "meta") then meta_of moment word.1
-    else (if bytes_eq word.0 (codes "get") then option_map plain (get_of moment word.1)
+worded moment word = if bytes_eq word.0 (codes "get") then option_map plain (get_of moment word.1)
     else (if bytes_eq word.0 (codes "got") then option_map plain (got_of moment word.1)
-    else (if bytes_eq word.0 (codes "lost") then option_map plain (lost_of moment word.1)
-    else (if bytes_eq word.0 (codes "metafail") then option_map plain (metafail_of moment word.1)
-    else option_map plain (of_record moment word.0 word.1)))))
+    else (if bytes_eq word.0 (codes "meta") then meta_of moment word.1
+    else option_map plain (of_numbers moment word.0 word.1)))
 
 -- the event, or else the other
 abbrev pub plainly_or : Option Event → Option Noted → Option Noted
@@ -226,7 +226,7 @@ call_of moment text = plainly_or (bare_of moment text) (parts_at SPACE text >>= 
 -- PASS MOMENT and a call: the pass, and what follows it
 unfoldable pub scripted_of : List ℕ × List ℕ → Option Said
 scripted_of pass = number_below (2 ^ 32) pass.0 >>= λ number. parts_at SPACE pass.1
-    >>= λ moment. number_of moment.0 >>= λ at. option_map (λ noted. Calls (number, noted)) (call_of at moment.1)
+    >>= λ moment. number_of moment.0 >>= λ at. option_map (on_pass number) (call_of at moment.1)
 
 -- `limits` and the limits, or a pass, a moment and a call
 unfoldable pub line_of : List ℕ → Option Said
@@ -391,15 +391,15 @@ pub record SaysDropLog (text : List ℕ) (said : Noted) : Type 0 where
   pub numbered : IsNumber number file
   pub call : said ≡ plain (DropLog file)
 
--- one of the three calls that speak of records
-abbrev pub SaysOfRecord : ℕ → List ℕ → Noted → Type 0
-SaysOfRecord moment text said = SaysFinish moment text said ⊎ (SaysLog text said ⊎ SaysDropLog text said)
+-- one of the five calls of numbers
+abbrev pub SaysOfNumbers : ℕ → List ℕ → Noted → Type 0
+SaysOfNumbers moment text said = SaysFinish moment text said ⊎ (SaysLost moment text said
+    ⊎ (SaysMetafail moment text said ⊎ (SaysLog text said ⊎ SaysDropLog text said)))
 
 -- one of the eleven calls
 abbrev pub SaysCall : ℕ → List ℕ → Noted → Type 0
-SaysCall moment text said = SaysBare moment text said ⊎ (SaysMeta moment text said ⊎ (SaysGet moment text said
-    ⊎ (SaysGot moment text said ⊎ (SaysLost moment text said ⊎ (SaysMetafail moment text said
-    ⊎ SaysOfRecord moment text said)))))
+SaysCall moment text said = SaysBare moment text said ⊎ (SaysGet moment text said ⊎ (SaysGot moment text said
+    ⊎ (SaysMeta moment text said ⊎ SaysOfNumbers moment text said)))
 
 -- PASS MOMENT and a call
 pub record SaysScripted (line : List ℕ) (said : Scripted) : Type 0 where
@@ -434,8 +434,3 @@ pub record SaysLimits (line : List ℕ) (limits : Bounds) : Type 0 where
 abbrev pub Says : List ℕ → Said → Type 0
 Says line (Sets limits) = SaysLimits line limits
 Says line (Calls scripted) = SaysScripted line scripted
-
--- what was read of a line is what it says, and nothing where it says nothing
-abbrev pub ReadsAs : List ℕ → Option Said → Type 0
-ReadsAs line (Some said) = Says line said
-ReadsAs line None = (said : Said) → Says line said → ⊥

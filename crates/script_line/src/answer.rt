@@ -1,29 +1,56 @@
 //! The answer lines of a script.
 
-ghost use Rattle.std.specs.Prelude.{◌≡◌, ◌++◌, ◌∷◌, [], OnOk, codes, decimal};
+ghost use Rattle.std.specs.Prelude.{◌≡◌, ◌++◌, ◌∷◌, [], IfOk, OnOk, codes, decimal, option_map};
 ghost use Rattle.std.specs.List.{flat_map};
 ghost use Rattle.cdni_base.specs.Rule.{rule_status, rule_text};
-ghost use Rattle.replay_script.specs.declared.grammar.TheConstants.{SPACE};
-ghost use Rattle.replay_script.specs.declared.step.TheConstants.{LINE_FEED};
+ghost use Rattle.script_line.specs.declared.grammar.TheConstants.{SPACE};
+ghost use Rattle.script_line.specs.declared.answer.TheConstants.{LINE_FEED};
 ghost use Rattle.hex.specs.Hex.{encode_lower};
-ghost use Rattle.replay_script.specs.Answer.{kind_word, body_word, more_word, numbers_word, log_text, ended_text, numbered, endpoint_word, plan_text, cause_text, fault_text, failed_line, answer_line};
+ghost use Rattle.trigger_status.specs.Job.{job_text, status_name};
+ghost use Rattle.script_line.specs.Answer.{kind_word, body_word, more_number, more_status, numbers_word, log_text, ended_text, numbered, endpoint_word, plan_text, cause_text, fault_text, failed_line, fetch_line, statuses_word, scripted_collection, trigger_line, answer_line};
 
-use cdni_base::{Endpoint, HTTP_PORT, Rule};
+use crate::own::{control_host, own_id};
+use cdni_base::{Endpoint, HTTP_PORT, Rule, Target, Text};
 use history::Reply;
 use itoa::Buffer;
 use json_read::{FieldCause, FieldFault};
 use metadata_objects::MetaFault;
 use std::alloc::{AllocError, Global};
+use trigger_command::IdList;
+use trigger_status::{Filter, Job, JobStatus, collection_json, job_json};
 
-// adds the answer line of the reply, where this was noted of the call
+/// The byte that ends a line.
+pub const LINE_FEED: u8 = b'\n';
+
+/// The line that answers a call of this reply, with its line feed, where this was noted of the call.
+///
+/// # Errors
+/// Want of memory.
+pub fn reply_line(
+    alloc: Global,
+    reply: &Reply,
+    note: Option<&MetaFault>,
+) -> Result<Text, AllocError>
+    ensures { IfOk result (λ text. text ≡ answer_line reply.now (option_map (λ fault. fault.now) note.entry)) }
+{
+    let mut out = Vec::new(alloc);
+    put_reply_line(alloc, &mut out, reply, note)?;
+    Ok(Text::from_vec(out))
+}
+
+/// Adds the line that answers a call of this reply, with its line feed, where this was noted of the call.
+///
+/// # Errors
+/// Want of memory; then a part of the line may have been added.
 #[tactic(auto, unfolding(crate::specs::Answer::answer_line))]
-pub(crate) fn put_answer(
+pub fn put_reply_line(
     alloc: Global,
     out: &mut Vec<u8>,
     reply: &Reply,
-    note: &Option<MetaFault>,
+    note: Option<&MetaFault>,
 ) -> Result<(), AllocError>
-    ensures { OnOk result (out.new.items ≡ out.old.items ++ answer_line reply.now note.now) }
+    ensures { OnOk result (out.new.items ≡ out.old.items
+        ++ answer_line reply.now (option_map (λ fault. fault.now) note.entry)) }
 {
     match reply {
         Reply::Denied { delivery, rule } => put_denied(out, *delivery, rule),
@@ -45,6 +72,7 @@ pub(crate) fn put_answer(
         Reply::Due { refresh } => put_numbered(out, b"due", *refresh),
         Reply::NotDue { next } => put_numbered(out, b"not-due", *next),
         Reply::Installed { generation } => put_numbered(out, b"installed", *generation),
+        Reply::Stale { trigger } => put_numbered(out, b"stale", *trigger),
         Reply::Older { refresh } => put_numbered(out, b"older", *refresh),
         Reply::Failed => put_failed(out, note),
         Reply::File { number } => put_numbered(out, b"file", *number),
@@ -52,7 +80,33 @@ pub(crate) fn put_answer(
         Reply::LogText { text } => put_log(out, text.bytes()),
         Reply::Numbers { list } => put_logs(out, list.as_slice()),
         Reply::Dropped => put(out, b"dropped\n"),
+        _ => put_of_trigger(alloc, out, reply),
+    }
+}
+
+// adds the answer line of a reply that speaks of triggers
+#[tactic(auto, unfolding(crate::specs::Answer::trigger_line))]
+fn put_of_trigger(alloc: Global, out: &mut Vec<u8>, reply: &Reply) -> Result<(), AllocError>
+    ensures { OnOk result (out.new.items ≡ out.old.items ++ trigger_line reply.now) }
+{
+    match reply {
+        Reply::Created { id } => put_numbered(out, b"created", *id),
+        Reply::Started => put(out, b"started\n"),
+        Reply::Fetch {
+            fetch,
+            plan,
+            target,
+        } => put_fetch(alloc, out, *fetch, plan.as_slice(), target),
+        Reply::Refresh { refresh } => put_numbered(out, b"refresh", *refresh),
+        Reply::Skipped { index } => put_numbered(out, b"skipped", *index as u64),
+        Reply::Final { status } => put_final(out, *status),
+        Reply::Claimed { pass } => put_numbered(out, b"claimed", *pass as u64),
+        Reply::StepOpen { number } => put_numbered(out, b"step-open", *number),
         Reply::Unknown { id } => put_numbered(out, b"unknown", *id),
+        Reply::Statuses { list } => put_statuses(out, list.as_slice()),
+        Reply::Deleted => put(out, b"deleted\n"),
+        Reply::Resource { job } => put_resource(alloc, out, job),
+        Reply::Collection { filter, ids } => put_collection(alloc, out, *filter, ids),
         _ => Ok(()),
     }
 }
@@ -104,14 +158,14 @@ fn put_numbers(out: &mut Vec<u8>, numbers: &[u64]) -> Result<(), AllocError>
         [] => put(out, b"-"),
         [first, rest @ ..] => {
             put_number(out, *first)?;
-            put_more(out, rest)
+            put_more_numbers(out, rest)
         }
     }
 }
 
 // the other numbers, each behind a comma
-fn put_more(out: &mut Vec<u8>, numbers: &[u64]) -> Result<(), AllocError>
-    ensures { OnOk result (out.new.items ≡ out.old.items ++ flat_map more_word numbers.now) }
+fn put_more_numbers(out: &mut Vec<u8>, numbers: &[u64]) -> Result<(), AllocError>
+    ensures { OnOk result (out.new.items ≡ out.old.items ++ flat_map more_number numbers.now) }
 {
     'numbers: for number in numbers {
         put(out, b",")?;
@@ -120,8 +174,8 @@ fn put_more(out: &mut Vec<u8>, numbers: &[u64]) -> Result<(), AllocError>
     Ok(())
 }
 
-fn put_failed(out: &mut Vec<u8>, note: &Option<MetaFault>) -> Result<(), AllocError>
-    ensures { OnOk result (out.new.items ≡ out.old.items ++ failed_line note.now) }
+fn put_failed(out: &mut Vec<u8>, note: Option<&MetaFault>) -> Result<(), AllocError>
+    ensures { OnOk result (out.new.items ≡ out.old.items ++ failed_line (option_map (λ fault. fault.now) note.entry)) }
 {
     let Some(fault) = note else {
         return put(out, b"failed\n");
@@ -294,4 +348,106 @@ fn put_hex(alloc: Global, out: &mut Vec<u8>, bytes: &[u8]) -> Result<(), AllocEr
 {
     let digits = hex::encode(alloc, bytes)?;
     put(out, digits.as_bytes())
+}
+
+#[tactic(auto, unfolding(crate::specs::Answer::fetch_line))]
+fn put_fetch(
+    alloc: Global,
+    out: &mut Vec<u8>,
+    fetch: u64,
+    plan: &[Endpoint],
+    target: &Target,
+) -> Result<(), AllocError>
+    ensures { OnOk result (out.new.items ≡ out.old.items ++ fetch_line fetch plan.now target.now) }
+{
+    let url = target.url_text(alloc, false)?;
+    put(out, b"fetch ")?;
+    put_number(out, fetch)?;
+    put(out, b" ")?;
+    put(out, url.bytes())?;
+    put_plan(out, plan)?;
+    put(out, b"\n")
+}
+
+fn put_final(out: &mut Vec<u8>, status: JobStatus) -> Result<(), AllocError>
+    ensures { OnOk result (out.new.items ≡ out.old.items ++
+        (codes "final " ++ status_name status ++ LINE_FEED ∷ [])) }
+{
+    put(out, b"final ")?;
+    put(out, status_name(status))?;
+    put(out, b"\n")
+}
+
+// the name of a status (RFC 8007, section 5.2.3)
+fn status_name(status: JobStatus) -> &'static [u8]
+    ensures { result.now ≡ status_name status }
+{
+    match status {
+        JobStatus::Pending => b"pending",
+        JobStatus::Active => b"active",
+        JobStatus::Complete => b"complete",
+        JobStatus::Failed => b"failed",
+        JobStatus::Cancelling => b"cancelling",
+        JobStatus::Cancelled => b"cancelled",
+    }
+}
+
+fn put_statuses(out: &mut Vec<u8>, statuses: &[JobStatus]) -> Result<(), AllocError>
+    ensures { OnOk result (out.new.items ≡ out.old.items ++
+        (codes "statuses " ++ statuses_word statuses.now ++ LINE_FEED ∷ [])) }
+{
+    put(out, b"statuses ")?;
+    match statuses {
+        [] => put(out, b"-")?,
+        [first, rest @ ..] => {
+            put(out, status_name(*first))?;
+            put_more_statuses(out, rest)?;
+        }
+    }
+    put(out, b"\n")
+}
+
+// the other statuses, each behind a comma
+fn put_more_statuses(out: &mut Vec<u8>, statuses: &[JobStatus]) -> Result<(), AllocError>
+    ensures { OnOk result (out.new.items ≡ out.old.items ++ flat_map more_status statuses.now) }
+{
+    'statuses: for status in statuses {
+        put(out, b",")?;
+        put(out, status_name(*status))?;
+    }
+    Ok(())
+}
+
+fn put_resource(alloc: Global, out: &mut Vec<u8>, job: &Job) -> Result<(), AllocError>
+    ensures { OnOk result (out.new.items ≡ out.old.items ++
+        (codes "resource " ++ job_text job.now ++ LINE_FEED ∷ [])) }
+{
+    let json = job_json(alloc, job)?;
+    put(out, b"resource ")?;
+    put(out, json.bytes())?;
+    put(out, b"\n")
+}
+
+fn put_collection(
+    alloc: Global,
+    out: &mut Vec<u8>,
+    filter: Filter,
+    ids: &IdList,
+) -> Result<(), AllocError>
+    ensures { OnOk result (out.new.items ≡ out.old.items ++
+        (codes "collection " ++ scripted_collection filter ids.now ++ LINE_FEED ∷ [])) }
+{
+    let json = scripted_collection(alloc, filter, ids)?;
+    put(out, b"collection ")?;
+    put(out, json.bytes())?;
+    put(out, b"\n")
+}
+
+// the collection of the triggers of a script
+fn scripted_collection(alloc: Global, filter: Filter, ids: &IdList) -> Result<Text, AllocError>
+    ensures { IfOk result (λ text. text ≡ scripted_collection filter ids.now) }
+{
+    let own = own_id(alloc)?;
+    let control = control_host(alloc)?;
+    collection_json(alloc, ids, filter, &own, &control)
 }

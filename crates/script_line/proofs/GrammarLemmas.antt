@@ -35,9 +35,12 @@ use Rattle.history.specs.Event.{Event, Admit, FetchEnd, Finish, RefreshEnd, Drop
 use Rattle.upstream_gate.specs.Got.{GotParts, IsGot, is_got_status}
 use Rattle.upstream_gate.specs.declared.got.TheConstants.{BODY_MAX}
 use Rattle.upstream_gate.specs.declared.outcome.Outcome.TheVariants as outcome
-use Rattle.replay_script.specs.Call.{Noted, Said, Sets, Calls}
-use Rattle.replay_script.specs.Grammar.{number_below, number_between, bounds_of, limits_of, url_target, key_of_url, keys_of_urls, keys_of, is_method, protocol_of, place_at, asked_of, get_of, refreshed, meta_of, plain, is_kind, kind_of, body_of, content_of, got_of, lost_of, metafail_of, finish_of, log_of, droplog_of, of_record, bare_of, plainly_or, worded, call_of, scripted_of, line_of, NoSpace, IsNumber, IsProtocol, IsPlace, IsAsked, AreKeys, IsKind, IsBody, SaysMeta, SaysGet, SaysGot, SaysLost, SaysMetafail, SaysFinish, SaysLog, SaysDropLog, SaysOfRecord, SaysBare, SaysCall, SaysScripted, SaysLimits, Says, ReadsAs}
-use Rattle.replay_script.specs.declared.grammar.TheConstants.{SPACE, BAR}
+use Rattle.script_line.specs.Line.{Noted, Said, Sets, Calls, said_of, on_pass, Gives, Reads, TellsNoMemory}
+use Rattle.script_line.specs.declared.line.ScriptFault.{ScriptFault}
+use Rattle.script_line.specs.declared.line.ScriptFault.TheVariants as script_fault
+use Rattle.script_line.specs.declared.line.ScriptLine.{ScriptLine}
+use Rattle.script_line.specs.Grammar.{number_below, number_between, bounds_of, limits_of, url_target, key_of_url, keys_of_urls, keys_of, is_method, protocol_of, place_at, asked_of, get_of, refreshed, meta_of, plain, is_kind, kind_of, body_of, content_of, got_of, lost_of, metafail_of, finish_of, log_of, droplog_of, of_numbers, bare_of, plainly_or, worded, call_of, scripted_of, line_of, NoSpace, IsNumber, IsProtocol, IsPlace, IsAsked, AreKeys, IsKind, IsBody, SaysMeta, SaysGet, SaysGot, SaysLost, SaysMetafail, SaysFinish, SaysLog, SaysDropLog, SaysOfNumbers, SaysBare, SaysCall, SaysScripted, SaysLimits, Says}
+use Rattle.script_line.specs.declared.grammar.TheConstants.{SPACE, BAR}
 
 abbrev pub parts_of : ℕ → List ℕ → List (List ℕ)
 parts_of byte text = slice_split (λ x. x == byte) text
@@ -110,6 +113,11 @@ module _ (text : List ℕ) (keys : List KeyParts) (all : Option (List KeyParts))
       sym (ap (λ parts. with_front keys (keys_of_urls parts)) (whole_part BAR text is)
       ∙ ap (λ one. with_front keys (one >>= λ k. option_map (λ more. k ∷ more) (Some []))) (sym found)) ∙ so_far
 
+-- a fault goes on, where there is nothing in the whole wherever there is nothing in a part
+pub fails_on : {A B C D : Type 0} (f : A → B) (g : C → D) {one : Option B} {all : Option D} (wrong : ScriptFault) → Gives f (Err wrong) one → (one ≡ None → all ≡ None) → Gives g (Err wrong) all
+fails_on f g script_fault.NotALine none then = then none
+fails_on f g script_fault.Memory none then = tt
+
 -- ---- words
 
 -- a text is cut at its first such byte
@@ -163,6 +171,10 @@ found_map f (Some a) b is = let e : f a ≡ b = cc in (a, refl, e)
 pub found_if : {B : Type 0} (t : Bool) (o : Option B) (b : B) → cond t o None ≡ Some b → (t ≡ true) × (o ≡ Some b)
 found_if true o b is = (refl, is)
 found_if false o b is = absurd (cc)
+
+one_of : {B : Type 0} (t : Bool) (first other : Option B) (b : B) → cond t first other ≡ Some b → ((t ≡ true) × (first ≡ Some b)) ⊎ (other ≡ Some b)
+one_of true first other b is = inl (refl, is)
+one_of false first other b is = inr is
 
 -- ---- a line says what is read of it
 
@@ -637,18 +649,26 @@ says_droplog text said is =
     let first = is.words in
     (first.0, first.1, ap (λ t. option_map plain (droplog_of t)) first.3 ∙ ap (λ n. option_map plain (option_map DropLog n)) (says_number is.number is.file is.numbered) ∙ ap Some (sym is.call))
 
-of_record_says : (moment : ℕ) (text word behind : List ℕ) (said : Noted) → parts_at SPACE text ≡ Some (word, behind) → option_map plain (of_record moment word behind) ≡ Some said → SaysOfRecord moment text said
-unfolding of_record
-of_record_says moment text word behind said cut is = elim (cases_Bool (bytes_eq word (codes "finish"))) [
-  | inl finish ↦ inl (finish_says moment text word behind said cut finish (ap (option_map plain) (sym (cond-true _ _ _ finish)) ∙ is))
-  | inr no_finish ↦ inr (elim (cases_Bool (bytes_eq word (codes "log"))) [
-    | inl log ↦ inl (log_says text word behind said cut log (ap (option_map plain) (sym (cond-true _ _ _ log) ∙ sym (cond-false _ _ _ no_finish)) ∙ is))
-    | inr no_log ↦
-        let event = found_map plain _ said (ap (option_map plain) (sym (cond-false _ _ _ no_log) ∙ sym (cond-false _ _ _ no_finish)) ∙ is) in
-        let last = found_if (bytes_eq word (codes "droplog")) (droplog_of behind) event.0 event.1 in
-        inr (droplog_says text word behind said cut last.0 (ap (option_map plain) last.1 ∙ ap Some event.2))
-  ])
-]
+numbers_say : (moment : ℕ) (text word behind : List ℕ) (said : Noted) → parts_at SPACE text ≡ Some (word, behind) → option_map plain (of_numbers moment word behind) ≡ Some said → SaysOfNumbers moment text said
+unfolding of_numbers
+numbers_say moment text word behind said cut is =
+    let event = found_map plain (of_numbers moment word behind) said is in
+    let plainly : (o : Option Event) → o ≡ Some event.0 → option_map plain o ≡ Some said = λ o found. ap (option_map plain) found ∙ ap Some event.2 in
+    elim (one_of (bytes_eq word (codes "finish")) _ _ event.0 event.1) [
+      | inl finish ↦ inl (finish_says moment text word behind said cut finish.0 (plainly _ finish.1))
+      | inr no_finish ↦ inr (elim (one_of (bytes_eq word (codes "lost")) _ _ event.0 no_finish) [
+        | inl lost ↦ inl (lost_says moment text word behind said cut lost.0 (plainly _ lost.1))
+        | inr no_lost ↦ inr (elim (one_of (bytes_eq word (codes "metafail")) _ _ event.0 no_lost) [
+          | inl metafail ↦ inl (metafail_says moment text word behind said cut metafail.0 (plainly _ metafail.1))
+          | inr no_metafail ↦ inr (elim (one_of (bytes_eq word (codes "log")) _ _ event.0 no_metafail) [
+            | inl log ↦ inl (log_says text word behind said cut log.0 (plainly _ log.1))
+            | inr no_log ↦
+                let last = found_if (bytes_eq word (codes "droplog")) (droplog_of behind) event.0 no_log in
+                inr (droplog_says text word behind said cut last.0 (plainly _ last.1))
+          ])
+        ])
+      ])
+    ]
 
 -- ---- calls and lines
 
@@ -664,25 +684,15 @@ bare_says moment text event is = elim (cases_Bool (bytes_eq text (codes "refresh
   ])
 ]
 
--- what a word that is none of those before stands for
 worded_says : (moment : ℕ) (text word behind : List ℕ) (said : Noted) → parts_at SPACE text ≡ Some (word, behind) → worded moment (word, behind) ≡ Some said
-    → SaysMeta moment text said ⊎ (SaysGet moment text said ⊎ (SaysGot moment text said ⊎ (SaysLost moment text said ⊎ (SaysMetafail moment text said ⊎ SaysOfRecord moment text said))))
-worded_says moment text word behind said cut is = elim (cases_Bool (bytes_eq word (codes "meta"))) [
-  | inl meta ↦ inl (meta_says moment text word behind said cut meta (sym (cond-true _ _ _ meta) ∙ is))
-  | inr no_meta ↦ inr (elim (cases_Bool (bytes_eq word (codes "get"))) [
-    | inl get ↦ inl (get_says moment text word behind said cut get (sym (cond-true _ _ _ get) ∙ sym (cond-false _ _ _ no_meta) ∙ is))
-    | inr no_get ↦ inr (elim (cases_Bool (bytes_eq word (codes "got"))) [
-      | inl got ↦ inl (got_says moment text word behind said cut got (sym (cond-true _ _ _ got) ∙ sym (cond-false _ _ _ no_get) ∙ sym (cond-false _ _ _ no_meta) ∙ is))
-      | inr no_got ↦ inr (elim (cases_Bool (bytes_eq word (codes "lost"))) [
-        | inl lost ↦ inl (lost_says moment text word behind said cut lost (sym (cond-true _ _ _ lost) ∙ sym (cond-false _ _ _ no_got) ∙ sym (cond-false _ _ _ no_get) ∙ sym (cond-false _ _ _ no_meta) ∙ is))
-        | inr no_lost ↦
-            let rest = sym (cond-false _ _ _ no_lost) ∙ sym (cond-false _ _ _ no_got) ∙ sym (cond-false _ _ _ no_get) ∙ sym (cond-false _ _ _ no_meta) ∙ is in
-            inr (elim (cases_Bool (bytes_eq word (codes "metafail"))) [
-              | inl metafail ↦ inl (metafail_says moment text word behind said cut metafail (sym (cond-true _ _ _ metafail) ∙ rest))
-              | inr no_metafail ↦
-                  inr (of_record_says moment text word behind said cut (sym (cond-false _ _ _ no_metafail) ∙ rest))
-            ])
-      ])
+    → SaysGet moment text said ⊎ (SaysGot moment text said ⊎ (SaysMeta moment text said ⊎ SaysOfNumbers moment text said))
+worded_says moment text word behind said cut is = elim (one_of (bytes_eq word (codes "get")) _ _ said is) [
+  | inl get ↦ inl (get_says moment text word behind said cut get.0 get.1)
+  | inr no_get ↦ inr (elim (one_of (bytes_eq word (codes "got")) _ _ said no_get) [
+    | inl got ↦ inl (got_says moment text word behind said cut got.0 got.1)
+    | inr no_got ↦ inr (elim (one_of (bytes_eq word (codes "meta")) _ _ said no_got) [
+      | inl meta ↦ inl (meta_says moment text word behind said cut meta.0 meta.1)
+      | inr no_meta ↦ inr (numbers_say moment text word behind said cut no_meta)
     ])
   ])
 ]
@@ -702,16 +712,16 @@ says_word_call moment text word behind said none is same worded_is =
     ap (call_of moment) same ∙ is ∙ found_then (parts_at SPACE (word ++ SPACE ∷ behind)) (worded moment) (word, behind) _ (begins_cut SPACE word behind none) worded_is
 
 says_call : (moment : ℕ) (text : List ℕ) (said : Noted) → SaysCall moment text said → call_of moment text ≡ Some said
-unfolding call_of bare_of of_record
+unfolding call_of bare_of of_numbers
 says_call moment text said (inl (inl is)) = ap (call_of moment) is.0 ∙ ap Some (sym is.1)
 says_call moment text said (inl (inr (inl is))) = ap (call_of moment) is.0 ∙ ap Some (sym is.1)
 says_call moment text said (inl (inr (inr is))) = ap (call_of moment) is.0 ∙ ap Some (sym is.1)
-says_call moment text said (inr (inl is)) = let m = says_meta moment text said is in says_word_call moment text (codes "meta") m.0 said refl refl m.1 m.2
-says_call moment text said (inr (inr (inl is))) = let m = says_get moment text said is in says_word_call moment text (codes "get") m.0 said refl refl m.1 m.2
-says_call moment text said (inr (inr (inr (inl is)))) = let m = says_got moment text said is in says_word_call moment text (codes "got") m.0 said refl refl m.1 m.2
-says_call moment text said (inr (inr (inr (inr (inl is))))) = let m = says_lost moment text said is in says_word_call moment text (codes "lost") m.0 said refl refl m.1 m.2
-says_call moment text said (inr (inr (inr (inr (inr (inl is)))))) = let m = says_metafail moment text said is in says_word_call moment text (codes "metafail") m.0 said refl refl m.1 m.2
-says_call moment text said (inr (inr (inr (inr (inr (inr (inl is))))))) = let m = says_finish moment text said is in says_word_call moment text (codes "finish") m.0 said refl refl m.1 m.2
+says_call moment text said (inr (inl is)) = let m = says_get moment text said is in says_word_call moment text (codes "get") m.0 said refl refl m.1 m.2
+says_call moment text said (inr (inr (inl is))) = let m = says_got moment text said is in says_word_call moment text (codes "got") m.0 said refl refl m.1 m.2
+says_call moment text said (inr (inr (inr (inl is)))) = let m = says_meta moment text said is in says_word_call moment text (codes "meta") m.0 said refl refl m.1 m.2
+says_call moment text said (inr (inr (inr (inr (inl is))))) = let m = says_finish moment text said is in says_word_call moment text (codes "finish") m.0 said refl refl m.1 m.2
+says_call moment text said (inr (inr (inr (inr (inr (inl is)))))) = let m = says_lost moment text said is in says_word_call moment text (codes "lost") m.0 said refl refl m.1 m.2
+says_call moment text said (inr (inr (inr (inr (inr (inr (inl is))))))) = let m = says_metafail moment text said is in says_word_call moment text (codes "metafail") m.0 said refl refl m.1 m.2
 says_call moment text said (inr (inr (inr (inr (inr (inr (inr (inl is)))))))) = let m = says_log text said is in says_word_call moment text (codes "log") m.0 said refl refl m.1 m.2
 says_call moment text said (inr (inr (inr (inr (inr (inr (inr (inr is)))))))) = let m = says_droplog text said is in says_word_call moment text (codes "droplog") m.0 said refl refl m.1 m.2
 
@@ -826,7 +836,7 @@ scripted_says line parts said cut is =
     let number = found_first (number_below (2 ^ 32) parts.0) _ said is in
     let moment = found_first (parts_at SPACE parts.1) _ said number.2 in
     let at = found_first (number_of moment.0.0) _ said moment.2 in
-    let call = found_map (λ noted. Calls (number.0, noted)) (call_of at.0 moment.0.1) said at.2 in
+    let call = found_map (on_pass number.0) (call_of at.0 moment.0.1) said at.2 in
     let p = word_says line parts.0 parts.1 cut in
     let m = word_says parts.1 moment.0.0 moment.0.1 moment.1 in
     let n = below_says (2 ^ 32) parts.0 number.0 number.1 in
@@ -874,16 +884,25 @@ says_line line (Calls said) is =
     ∙ found_then (number_below (2 ^ 32) is.pass) _ said.0 _ (says_below (2 ^ 32) is.pass said.0 is.numbered is.small)
     (found_then (parts_at SPACE p.0) _ (is.moment, m.0) _ (says_word p.0 is.moment m.0 m.1 m.2)
     (found_then (number_of is.moment) _ is.at _ (says_number is.moment is.at is.timed)
-    (ap (option_map (λ noted. Calls (said.0, noted))) (ap (call_of is.at) m.3 ∙ says_call is.at is.call said.1 is.called)))))
+    (ap (option_map (on_pass said.0)) (ap (call_of is.at) m.3 ∙ says_call is.at is.call said.1 is.called)))))
 
 -- what is read of a line is what it says, and a line says one thing at most
-pub reads_as : (line : List ℕ) (found : Option Said) → found ≡ line_of line → ReadsAs line found
-reads_as line (Some said) is = line_says line said (sym is)
-reads_as line None is = λ said says. none_some (is ∙ says_line line said says)
-
 pub one_saying : (line : List ℕ) (said other : Said) → Says line said → Says line other → said ≡ other
 one_saying line said other one two = same_some (sym (says_line line said one) ∙ says_line line other two)
 
-pub reads_ok : {X E : Type 0} (f : X → Said) (r : Result (Option X) E) (line : List ℕ) → IfOk r (λ found. option_map f found ≡ line_of line) → IfOk r (λ found. ReadsAs line (option_map f found))
-reads_ok f (Ok found) line is = reads_as line (option_map f found) is
-reads_ok f (Err e) line is = tt
+pub read_value : (read : Result ScriptLine ScriptFault) (said : Option Said) → Reads read said → Gives said_of read said
+read_value (Ok line) said is = is.0
+read_value (Err script_fault.NotALine) said is = is
+read_value (Err script_fault.Memory) said is = tt
+
+pub read_says : (read : Result ScriptLine ScriptFault) (line : List ℕ) → Reads read (line_of line) → IfOk read (λ found. Says line (said_of found))
+read_says (Ok found) line is = line_says line (said_of found) is.0
+read_says (Err fault) line is = tt
+
+pub read_nothing : (read : Result ScriptLine ScriptFault) (line : List ℕ) → Reads read (line_of line) → read ≡ Err script_fault.NotALine → (said : Said) → Says line said → ⊥
+read_nothing read line is none said says =
+    none_some (sym (subst (λ r. Reads r (line_of line)) none is) ∙ says_line line said says)
+
+pub read_tells : (read : Result ScriptLine ScriptFault) (said : Option Said) → Reads read said → IfOk read TellsNoMemory
+read_tells (Ok found) said is = is.1
+read_tells (Err fault) said is = tt

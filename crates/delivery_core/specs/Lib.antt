@@ -5,3 +5,4 @@ pub mod Records
 pub mod Shelf
 pub mod Edge
 pub mod Traces
+pub mod OpenCount

@@ -106,7 +106,7 @@ impl Records {
         let Some(rows) = self.deliveries.len().checked_add(spare) else {
             return Err(AllocError);
         };
-        self.unfiled.reserve(alloc, rows)?;
+        reserve_rows(alloc, &mut self.unfiled, rows)?;
         self.deliveries.reserve(alloc, 1)
     }
 
@@ -146,6 +146,29 @@ impl Records {
             None => None,
         }
     }
+}
+
+// reserves places for so many rows, and for twice as many where there is memory for them, so that few calls take memory
+fn reserve_rows(alloc: Global, unfiled: &mut RowList, rows: usize) -> Result<(), AllocError>
+    ensures places { OnOk result (rows ≤ unfiled.new.spare) }
+    ensures kept { unfiled.new.items ≡ unfiled.old.items }
+    ensures no_fewer { unfiled.old.spare ≤ unfiled.new.spare }
+    ensures refused { OnErr result (unfiled.new ≡ unfiled.old) }
+{
+    if rows <= unfiled.spare() {
+        return Ok(());
+    }
+    match unfiled.reserve(alloc, twice(rows)) {
+        Ok(()) => Ok(()),
+        Err(_) => unfiled.reserve(alloc, rows),
+    }
+}
+
+// twice the number, where that is a number of places
+fn twice(rows: usize) -> usize
+    ensures { rows ≤ result }
+{
+    rows.saturating_mul(2)
 }
 
 // the row of a delivery that ended so

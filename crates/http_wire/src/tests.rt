@@ -206,6 +206,38 @@ fn chunked_bodies(rt: HostRuntime) -> Result<(), Fail> {
     Ok(())
 }
 
+// A chunk line, and the trailers with the empty line behind them, of 16,384 bytes at most.
+#[test]
+fn limits_of_chunked_bodies(rt: HostRuntime) -> Result<(), Fail> {
+    let alloc = rt.alloc();
+    for (extension, trailer, bad) in [
+        (16_380, 16_378, false),
+        (16_381, 1, true),
+        (1, 16_379, true),
+    ] {
+        let mut bytes = Vec::new(alloc);
+        bytes.extend_from_slice(b"1;")?;
+        bytes.resize(bytes.len() + extension, 120)?;
+        bytes.extend_from_slice(b"\r\na\r\n0\r\nT:")?;
+        bytes.resize(bytes.len() + trailer, 120)?;
+        bytes.extend_from_slice(b"\r\n\r\n")?;
+        let mut source = MemorySource::new(alloc, &bytes, &[])?;
+        let mut inbox = Inbox::new(alloc)?;
+        let read = read_chunked(alloc, &mut source, &mut inbox, 1);
+        let told = body_told(alloc, read)?;
+        assert_eq!(rt;
+            told.starts_with(b"bad length"),
+            bad,
+            "{extension} {trailer}"
+        );
+        assert!(rt;
+            bad || told.as_slice() == b"a".as_slice(),
+            "{extension} {trailer}"
+        );
+    }
+    Ok(())
+}
+
 #[test]
 fn bodies_to_the_end(rt: HostRuntime) -> Result<(), Fail> {
     let alloc = rt.alloc();

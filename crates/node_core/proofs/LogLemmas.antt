@@ -22,9 +22,9 @@ use Rattle.history.specs.Reply.{reply_in}
 use Rattle.history.specs.World.{Filed, Made, Recorded, World}
 use Rattle.history.specs.declared.reply.Reply.{Reply}
 use Rattle.history.specs.declared.reply.Reply.TheVariants as reply
-use Rattle.node_core.proofs.NodeLemmas.{after_opens, control_by, control_kept, left_by, node, same_opened, told}
+use Rattle.node_core.proofs.StateLemmas.{after_opens, control_by, control_kept, left_by, same_opened, state, told}
 use Rattle.node_core.specs.Logs.{control_of, dropped_log, file_in, logged}
-use Rattle.node_core.specs.Node.{IsSound, Stands, Tells}
+use Rattle.node_core.specs.State.{IsSound, Follows, Says}
 
 -- ---- lists
 
@@ -89,7 +89,7 @@ plain_after : (w : World) (pass moment : ℕ) → w.delivering.starts ≡ [] →
 unfolding after after_reply
 plain_after w pass moment plain = plain
 
-module _ (made : Made) (h : History) (edge : EdgeView) (control : ControlView) (origin : List ℕ) (opened : ℕ) (s : Stands (node edge control origin opened) made h) where
+module _ (made : Made) (h : History) (edge : EdgeView) (control : ControlView) (origin : List ℕ) (opened : ℕ) (s : Follows (state edge control origin opened) made h) where
   abbrev w : World
   w = world_of made h
 
@@ -123,35 +123,35 @@ module _ (made : Made) (h : History) (edge : EdgeView) (control : ControlView) (
     nothing_replied none = ap (replies.cut_reply w) (sym (none_of w.delivering.unfiled (sym many_rows ∙ none)))
 
     -- nothing is unfiled
-    pub nothing_told : length edge.unfiled ≡ 0 → Tells made h cut reply.NothingToCut (node edge control origin opened)
+    pub nothing_told : length edge.unfiled ≡ 0 → Says made h cut reply.NothingToCut (state edge control origin opened)
     nothing_told none =
         let replied = nothing_replied none in
         told made h cut reply.NothingToCut edge control origin opened replied
         (s.edge ∙ sym (left_by w cut reply.NothingToCut (sym replied) ∙ squares.uncut_leaves w pass moment))
         (s.control ∙ control_kept w cut reply.NothingToCut replied refl refl) s.origin
         (s.opened ∙ same_opened w.counts.opened ∙ after_opens w cut reply.NothingToCut replied)
-        (plain_after w pass moment s.plain)
+        (plain_after w pass moment s.plain) s.untriggered
 
-    full_told_by : (count : ℕ) → reply.Full count ≡ reply_in w cut → Tells made h cut (reply.Full count) (node edge control origin opened)
+    full_told_by : (count : ℕ) → reply.Full count ≡ reply_in w cut → Says made h cut (reply.Full count) (state edge control origin opened)
     full_told_by count replied =
         told made h cut (reply.Full count) edge control origin opened replied
         (s.edge ∙ sym (left_by w cut (reply.Full count) (sym replied) ∙ squares.full_cut_leaves w pass moment count))
         (s.control ∙ control_kept w cut (reply.Full count) replied refl refl) s.origin
         (s.opened ∙ same_opened w.counts.opened ∙ after_opens w cut (reply.Full count) replied)
-        (plain_after w pass moment s.plain)
+        (plain_after w pass moment s.plain) s.untriggered
 
     -- as many files are kept as may be
-    pub full_told : 0 < length edge.unfiled → (length control.files == edge.limits.files) ≡ true → Tells made h cut (reply.Full (length control.files)) (node edge control origin opened)
+    pub full_told : 0 < length edge.unfiled → (length control.files == edge.limits.files) ≡ true → Says made h cut (reply.Full (length control.files)) (state edge control origin opened)
     full_told some is = full_told_by (length control.files) (ap (λ n. reply.Full n) many_files ∙ replied_by some true (opened == edge.limits.opened) is refl)
 
     -- as many answers opened something as may
-    pub spent_told : 0 < length edge.unfiled → (length control.files == edge.limits.files) ≡ false → (opened == edge.limits.opened) ≡ true → Tells made h cut (reply.Full opened) (node edge control origin opened)
+    pub spent_told : 0 < length edge.unfiled → (length control.files == edge.limits.files) ≡ false → (opened == edge.limits.opened) ≡ true → Says made h cut (reply.Full opened) (state edge control origin opened)
     spent_told some is also = full_told_by opened (ap (λ n. reply.Full n) s.opened ∙ replied_by some false true is also)
 
     -- the rows are filed
     pub file_told : (edge' : EdgeView) (control' : ControlView) (number : ℕ) → 0 < length edge.unfiled → (length control.files == edge.limits.files) ≡ false → (opened == edge.limits.opened) ≡ false
         → number ≡ control.filed + 1 → edge' ≡ record edge { unfiled = [] } → control' ≡ with_file control (record { number = control.filed + 1; moment = moment; origin = origin }) edge.unfiled
-        → Tells made h cut (reply.File number) (node edge' control' origin (opened + 1))
+        → Says made h cut (reply.File number) (state edge' control' origin (opened + 1))
     file_told edge' control' number some is also numbered left kept =
         let filed : control.filed + 1 ≡ w.counts.filed + 1 = ap (λ (v : ControlView). v.filed + 1) s.control in
         let replied : reply.File number ≡ reply_in w cut = ap (λ n. reply.File n) (numbered ∙ filed) ∙ replied_by some false false is also in
@@ -164,7 +164,7 @@ module _ (made : Made) (h : History) (edge : EdgeView) (control : ControlView) (
         ∙ sym (control_by w cut (reply.File (w.counts.filed + 1)) new ∙ cut_files w pass moment))
         s.origin
         (ap (λ n. n + 1) s.opened ∙ after_opens w cut (reply.File number) replied)
-        (plain_after w pass moment s.plain)
+        (plain_after w pass moment s.plain) s.untriggered
 
   -- ---- reading, listing and dropping
 
@@ -184,24 +184,24 @@ module _ (made : Made) (h : History) (edge : EdgeView) (control : ControlView) (
     unfolding after after_reply
     log_plain = s.plain
 
-    log_told_by : (text : Option (List ℕ)) → logged number text ≡ reply_in w (pass, ReadLog number) → Tells made h (pass, ReadLog number) (logged number text) (node edge control origin opened)
+    log_told_by : (text : Option (List ℕ)) → logged number text ≡ reply_in w (pass, ReadLog number) → Says made h (pass, ReadLog number) (logged number text) (state edge control origin opened)
     log_told_by None replied =
         told made h (pass, ReadLog number) (reply.Unknown number) edge control origin opened replied
         (s.edge ∙ sym (left_by w (pass, ReadLog number) (reply.Unknown number) (sym replied) ∙ squares.no_log_leaves w pass number))
         (s.control ∙ control_kept w (pass, ReadLog number) (reply.Unknown number) replied refl refl) s.origin
-        (s.opened ∙ same_opened w.counts.opened ∙ after_opens w (pass, ReadLog number) (reply.Unknown number) replied) log_plain
+        (s.opened ∙ same_opened w.counts.opened ∙ after_opens w (pass, ReadLog number) (reply.Unknown number) replied) log_plain s.untriggered
     log_told_by (Some text) replied =
         told made h (pass, ReadLog number) (reply.LogText text) edge control origin opened replied
         (s.edge ∙ sym (left_by w (pass, ReadLog number) (reply.LogText text) (sym replied) ∙ squares.log_leaves w pass number text))
         (s.control ∙ control_kept w (pass, ReadLog number) (reply.LogText text) replied refl refl) s.origin
-        (s.opened ∙ same_opened w.counts.opened ∙ after_opens w (pass, ReadLog number) (reply.LogText text) replied) log_plain
+        (s.opened ∙ same_opened w.counts.opened ∙ after_opens w (pass, ReadLog number) (reply.LogText text) replied) log_plain s.untriggered
 
-    pub log_told : Tells made h (pass, ReadLog number) (logged number (text_at number control.files)) (node edge control origin opened)
+    pub log_told : Says made h (pass, ReadLog number) (logged number (text_at number control.files)) (state edge control origin opened)
     log_told = log_told_by (text_at number control.files) log_replied
 
     -- the text of the file, where there is memory for it
-    pub log_ok : (found : Option (List ℕ)) (r : Result Reply AllocError) → found ≡ text_at number control.files → IfOk r (λ a. a ≡ logged number found) → IfOk r (λ a. Tells made h (pass, ReadLog number) a (node edge control origin opened))
-    log_ok found (Ok a) is answer = subst (λ b. Tells made h (pass, ReadLog number) b (node edge control origin opened)) (sym (answer ∙ ap (logged number) is)) log_told
+    pub log_ok : (found : Option (List ℕ)) (r : Result Reply AllocError) → found ≡ text_at number control.files → IfOk r (λ a. a ≡ logged number found) → IfOk r (λ a. Says made h (pass, ReadLog number) a (state edge control origin opened))
+    log_ok found (Ok a) is answer = subst (λ b. Says made h (pass, ReadLog number) b (state edge control origin opened)) (sym (answer ∙ ap (logged number) is)) log_told
     log_ok found (Err e) is answer = tt
 
     any_is : list_any (has_number number) control.files ≡ is_some (replies.file_of number w.controlling.files)
@@ -228,20 +228,20 @@ module _ (made : Made) (h : History) (edge : EdgeView) (control : ControlView) (
     dropped_files false = ap (λ fs. record control { files = fs }) kept_files ∙ ap (λ (v : ControlView). record v { files = map (file_in w.made.origin) (filter (λ (file : Filed). not (file.number == number)) w.controlling.files) }) s.control
 
     drop_told_by : (control' : ControlView) (dropped : Bool) → dropped_log number dropped ≡ reply_in w (pass, DropLog number)
-        → control' ≡ control_of (after_reply w (pass, DropLog number) (dropped_log number dropped)) → Tells made h (pass, DropLog number) (dropped_log number dropped) (node edge control' origin opened)
+        → control' ≡ control_of (after_reply w (pass, DropLog number) (dropped_log number dropped)) → Says made h (pass, DropLog number) (dropped_log number dropped) (state edge control' origin opened)
     drop_told_by control' true replied kept =
         told made h (pass, DropLog number) reply.Dropped edge control' origin opened replied
         (s.edge ∙ sym (left_by w (pass, DropLog number) reply.Dropped (sym replied) ∙ squares.dropped_leaves w pass number))
         (kept ∙ sym (control_by w (pass, DropLog number) reply.Dropped replied)) s.origin
-        (s.opened ∙ same_opened w.counts.opened ∙ after_opens w (pass, DropLog number) reply.Dropped replied) drop_plain
+        (s.opened ∙ same_opened w.counts.opened ∙ after_opens w (pass, DropLog number) reply.Dropped replied) drop_plain s.untriggered
     drop_told_by control' false replied kept =
         told made h (pass, DropLog number) (reply.Unknown number) edge control' origin opened replied
         (s.edge ∙ sym (left_by w (pass, DropLog number) (reply.Unknown number) (sym replied) ∙ squares.undropped_leaves w pass number))
         (kept ∙ sym (control_by w (pass, DropLog number) (reply.Unknown number) replied)) s.origin
-        (s.opened ∙ same_opened w.counts.opened ∙ after_opens w (pass, DropLog number) (reply.Unknown number) replied) drop_plain
+        (s.opened ∙ same_opened w.counts.opened ∙ after_opens w (pass, DropLog number) (reply.Unknown number) replied) drop_plain s.untriggered
 
     pub drop_told : (control' : ControlView) (dropped : Bool) → dropped ≡ list_any (has_number number) control.files → control' ≡ record control { files = filter (λ file. not (has_number number file)) control.files }
-        → Tells made h (pass, DropLog number) (dropped_log number dropped) (node edge control' origin opened)
+        → Says made h (pass, DropLog number) (dropped_log number dropped) (state edge control' origin opened)
     drop_told control' dropped is kept = drop_told_by control' dropped (drop_replied dropped is) (kept ∙ dropped_files dropped)
 
   module _ (pass : ℕ) where
@@ -257,13 +257,13 @@ module _ (made : Made) (h : History) (edge : EdgeView) (control : ControlView) (
     unfolding after after_reply
     list_plain = s.plain
 
-    pub list_told : (numbers : List ℕ) → numbers ≡ map (λ (file : LogFile). file.number) control.files → Tells made h (pass, ListLogs) (reply.Numbers numbers) (node edge control origin opened)
+    pub list_told : (numbers : List ℕ) → numbers ≡ map (λ (file : LogFile). file.number) control.files → Says made h (pass, ListLogs) (reply.Numbers numbers) (state edge control origin opened)
     list_told numbers are =
         let replied : reply.Numbers numbers ≡ reply_in w (pass, ListLogs) = ap (λ ns. reply.Numbers ns) are ∙ list_replied in
         told made h (pass, ListLogs) (reply.Numbers numbers) edge control origin opened replied
         (s.edge ∙ sym (left_by w (pass, ListLogs) (reply.Numbers numbers) (sym replied) ∙ squares.list_leaves w pass numbers))
         (s.control ∙ control_kept w (pass, ListLogs) (reply.Numbers numbers) replied refl refl) s.origin
-        (s.opened ∙ same_opened w.counts.opened ∙ after_opens w (pass, ListLogs) (reply.Numbers numbers) replied) list_plain
+        (s.opened ∙ same_opened w.counts.opened ∙ after_opens w (pass, ListLogs) (reply.Numbers numbers) replied) list_plain s.untriggered
 
 -- ---- soundness
 

@@ -1,10 +1,8 @@
--- A call as the definitions see it: with metadata as plain data.
-use Rattle.std.specs.Prelude.{Bool, true, false}
-use Rattle.std.specs.Option.{option_map}
-use Rattle.metadata_objects.specs.Tree.{tree_view}
-use Rattle.history.specs.Event.{Event, Admit, FetchEnd, Finish, RefreshBegin, RefreshEnd, Cut, LogFile, ListLogs, DropLog}
-use Rattle.node_core.specs.declared.call.Call.{Call}
-use Rattle.node_core.specs.declared.call.Call.TheVariants as call
+-- What is said of calls: which end something, and how a journal keeps them.
+use Rattle.std.specs.Prelude.{Bool, true, false, List, map, None}
+use Rattle.history.specs.Event.{Entry, Event, History, Admit, FetchEnd, Finish, RefreshBegin, RefreshEnd, Command, event_of}
+use Rattle.upstream_gate.specs.declared.outcome.Outcome.TheVariants.{Failed}
+use Rattle.node_core.specs.declared.entered.Entered.{Entered}
 
 -- the end of a fetch, of a refresh or of a delivery
 abbrev pub is_end : Event → Bool
@@ -13,13 +11,20 @@ is_end (RefreshEnd refresh tree moment) = true
 is_end (Finish delivery status total entity moment) = true
 is_end event = false
 
-abbrev pub event_of : Call → Event
-event_of (call.RefreshBegin moment) = RefreshBegin moment
-event_of (call.RefreshEnd refresh tree moment) = RefreshEnd refresh (option_map tree_view tree) moment
-event_of (call.Admit asked place moment) = Admit asked place moment
-event_of (call.FetchEnd fetch outcome moment) = FetchEnd fetch outcome moment
-event_of (call.Finish delivery status total entity moment) = Finish delivery status total entity moment
-event_of (call.Cut moment) = Cut moment
-event_of (call.LogFile number) = LogFile number
-event_of call.ListLogs = ListLogs
-event_of (call.DropLog number) = DropLog number
+-- a command of the upstream CDN
+abbrev pub is_command : Event → Bool
+is_command (Command spec moment) = true
+is_command event = false
+
+-- without what a fetch or a refresh brought
+abbrev pub stripped_event : Event → Event
+stripped_event (FetchEnd fetch outcome moment) = FetchEnd fetch Failed moment
+stripped_event (RefreshEnd refresh tree moment) = RefreshEnd refresh None moment
+stripped_event event = event
+
+abbrev pub stripped : Entry → Entry
+stripped entry = (entry.0, stripped_event entry.1)
+
+-- what the journal keeps of it
+abbrev pub entry_of : Entered → Entry
+entry_of entered = (entered.pass, event_of entered.call)

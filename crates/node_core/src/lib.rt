@@ -1,8 +1,12 @@
 //! The node that stands for a history of calls: each call is answered as the history before it says.
 #![tactic(auto)]
 
-mod call;
+mod entered;
+mod home;
 mod node;
+mod state;
 
-pub use call::Call;
+pub use entered::Entered;
+pub use history::{Call, Reply};
+pub use home::{Home, OneHome};
 pub use node::Node;

@@ -1,44 +1,44 @@
 //! The node: one call after the other.
 
-ghost use Rattle.std.specs.Prelude.{◌≡◌, ◌≤◌, ℕ, [], IfOk, IsOk, IsTrue, OnErr};
-ghost use Rattle.std.specs.Option.{option_map};
-ghost use Rattle.delivery_core.specs.Traces.{reply_of, fetch_ended, finished, refresh_ended};
-ghost use Rattle.history.specs.After.{opened_by};
-ghost use Rattle.history.specs.Event.{History, Admit, FetchEnd, Finish, RefreshBegin, RefreshEnd, Cut, DropLog, ListLogs, LogFile};
-ghost use Rattle.metadata_objects.specs.Tree.{tree_view};
+ghost use Rattle.std.specs.Prelude.{◌≡◌, ◌+◌, ◌^◌, ◌<◌, ◌≤◌, [], ◌∷◌, ◌++◌, true, false, IfOk, IsOk, OnErr, OnOk};
+ghost use Rattle.history.specs.Event.{History, event_of};
 ghost use Rattle.history.specs.World.{Made};
-ghost use Rattle.node_core.specs.Call.{event_of, is_end};
-ghost use Rattle.node_core.specs.Node.{Stands, Tells};
+ghost use Rattle.node_core.specs.Answers.{answers};
+ghost use Rattle.node_core.specs.Call.{is_command, is_end};
+ghost use Rattle.delivery_core.specs.OpenCount.{begun_count};
+ghost use Rattle.node_core.specs.State.{ends_open, is_not_open};
+ghost use Rattle.node_core.specs.Home.{EndsOpen};
 ghost use Rattle.node_core.specs.Law.{IsLawful};
-ghost use Rattle.node_core.specs.Logs.{dropped_log, logged};
+ghost use Rattle.node_core.specs.Node.{Stands, Tells};
 
-use crate::call::Call;
-use cdni_base::{Asked, Limits, Moment, Text};
-use cdni_log::FileHead;
-use control_core::Control;
-use delivery_core::{Admitted, Began, Edge, RefreshEnded};
+use crate::entered::{Entered, copied, is_end, stripped};
+use crate::state::State;
+use cdni_base::{Limits, Text};
 use delivery_law::fetches::{a_hit_gives_what_one_fetch_brought, a_miss_begins_its_own_fetch};
 use delivery_law::log_rows::each_row_belongs_to_one_finish_and_one_admit;
 use delivery_law::metadata::an_admission_uses_metadata_that_no_start_has_hit;
-use history::Reply;
-use location_acl::Place;
-use metadata_objects::Tree;
+use history::laws::what_is_open_has_begun_and_not_ended;
+use history::{Call, Reply};
+use journal::Journal;
 use std::alloc::{AllocError, Global};
 use std::marker::Model;
-use upstream_gate::Outcome;
 
-/// What is installed, kept and open, the log files with the host that they claim, and how many answers opened something. A node stands for the history of the calls
-/// that it took in, each with the number of the pass that made it.
+/// What the calls have left, and the journal of the calls. A node stands for the history of the calls that it took in,
+/// each with the number of the pass that made it. What is open has a place in the journal for its end, so that its end
+/// takes no memory.
 #[derive(Drop)]
 pub struct Node {
-    edge: Edge,
-    control: Control,
-    origin: Text,
-    opened: u64,
+    limits: Limits,
+    state: State,
+    journal: Journal<Entered>,
+    places: usize,
 }
 
 impl Model for Node {
-    ghost use Rattle.node_core.specs.Node.{NodeView, IsSound};
+    ghost use Rattle.std.specs.Prelude.{◌≤◌, map};
+    ghost use Rattle.node_core.specs.Call.{entry_of};
+    ghost use Rattle.delivery_core.specs.OpenCount.{open_count};
+    ghost use Rattle.node_core.specs.Node.{NodeView};
 
     ghost Value = { NodeView };
 
@@ -53,9 +53,13 @@ impl Model for Node {
           (coded_list generic.the_row.coded) coded_ℕ))),
     ) };
 
-    ghost view = { λ c. record { edge = c.edge; control = c.control; origin = c.origin; opened = c.opened } };
+    ghost view = { λ n. record {
+      made = record { limits = n.limits; origin = n.state.origin };
+      state = n.state;
+      stored = map entry_of n.journal.stored;
+    } };
 
-    ghost invariant = { λ c. IsSound c.edge c.control c.opened };
+    ghost invariant = { λ n. (open_count n.state.edge ≤ n.places) × (n.places ≤ n.journal.spare) };
 }
 
 impl Node {
@@ -64,14 +68,14 @@ impl Node {
     /// # Errors
     /// Want of memory.
     pub fn new(alloc: Global, limits: &Limits, origin: Text) -> Result<Node, AllocError>
-        ensures { IfOk result (λ node. Stands node (record { limits = limits.now; origin = origin }) []) }
+        ensures stands { IfOk result (λ node. Stands node (record { limits = limits.now; origin = origin }) []) }
+        ensures made { IfOk result (λ node. node.made ≡ record { limits = limits.now; origin = origin }) }
     {
-        let _opened = limits.opened;
         Ok(Node {
-            edge: Edge::new(alloc, limits)?,
-            control: Control::new(alloc, limits)?,
-            origin,
-            opened: 0,
+            limits: *limits,
+            state: State::new(alloc, limits, origin)?,
+            journal: Journal::new(alloc)?,
+            places: 0,
         })
     }
 
@@ -80,291 +84,137 @@ impl Node {
     /// that nothing has taken back, and a delivery that is finished has its row.
     ///
     /// # Errors
-    /// Want of memory, but for the end of a fetch, of a refresh or of a delivery, which takes none. The node is then as
-    /// before, and what the call carried is lost.
+    /// Want of memory, but for the end of a fetch, of a refresh or of a delivery that the pass has open, which takes none.
+    /// The node is then as before, and what the call carried is lost.
     pub fn call(&mut self, alloc: Global, pass: u32, call: Call) -> Result<Reply, AllocError>
+        requires { is_command (event_of call) ≡ false }
         ensures told { (made : Made) (h : History) → Stands self.old made h
             → IfOk result (λ r. Tells made h (pass, event_of call) r self.new) }
         ensures lawful { (made : Made) (h : History) → Stands self.old made h
             → IfOk result (λ r. IsLawful made h pass (event_of call) r) }
-        ensures ended { IsTrue (is_end (event_of call)) → IsOk result }
+        ensures kind { IfOk result (λ r. answers (event_of call) r ≡ true) }
+        ensures made { self.new.made ≡ self.old.made }
+        ensures ended { (made : Made) (h : History) → Stands self.old made h → EndsOpen made h pass (event_of call)
+            → IsOk result }
         ensures err { OnErr result (self.new ≡ self.old) }
     {
         a_hit_gives_what_one_fetch_brought();
         a_miss_begins_its_own_fetch();
         an_admission_uses_metadata_that_no_start_has_hit();
         each_row_belongs_to_one_finish_and_one_admit();
+        what_is_open_has_begun_and_not_ended();
         self.take_in(alloc, pass, call)
     }
 
     fn take_in(&mut self, alloc: Global, pass: u32, call: Call) -> Result<Reply, AllocError>
+        requires { is_command (event_of call) ≡ false }
         ensures told { (made : Made) (h : History) → Stands self.old made h
             → IfOk result (λ r. Tells made h (pass, event_of call) r self.new) }
-        ensures ended { IsTrue (is_end (event_of call)) → IsOk result }
+        ensures kind { IfOk result (λ r. answers (event_of call) r ≡ true) }
+        ensures made { self.new.made ≡ self.old.made }
+        ensures ended { ends_open self.old.state.edge pass (event_of call) ≡ true → IsOk result }
         ensures err { OnErr result (self.new ≡ self.old) }
     {
-        match call {
-            Call::RefreshBegin { moment } => self.refresh_begin(alloc, pass, moment),
-            Call::RefreshEnd {
-                refresh,
-                tree,
-                moment: _,
-            } => Ok(self.refresh_end(pass, refresh, tree)),
-            Call::Admit {
-                asked,
-                place,
-                moment,
-            } => self.admit(alloc, pass, asked, place, moment),
-            Call::FetchEnd {
-                fetch,
-                outcome,
-                moment: _,
-            } => Ok(self.fetch_end(pass, fetch, outcome)),
-            Call::Finish {
-                delivery,
-                status,
-                total,
-                entity,
-                moment,
-            } => Ok(self.finish(pass, delivery, status, total, entity, moment)),
-            Call::Cut { moment } => self.cut(alloc, moment),
-            Call::LogFile { number } => self.log_file(number),
-            Call::ListLogs => self.list_logs(alloc),
-            Call::DropLog { number } => Ok(self.drop_log(number)),
+        if is_end(&call) {
+            self.end(alloc, pass, call)
+        } else {
+            self.begin(alloc, pass, call)
         }
     }
 
-    fn refresh_begin(
-        &mut self,
-        alloc: Global,
-        pass: u32,
-        moment: Moment,
-    ) -> Result<Reply, AllocError>
+    // the end of a fetch, of a refresh or of a delivery: one that is open has its place
+    fn end(&mut self, alloc: Global, pass: u32, call: Call) -> Result<Reply, AllocError>
+        requires { is_end (event_of call) ≡ true }
         ensures told { (made : Made) (h : History) → Stands self.old made h
-            → IfOk result (λ r. Tells made h (pass, RefreshBegin moment) r self.new) }
+            → IfOk result (λ r. Tells made h (pass, event_of call) r self.new) }
+        ensures kind { IfOk result (λ r. answers (event_of call) r ≡ true) }
+        ensures made { self.new.made ≡ self.old.made }
+        ensures ended { ends_open self.old.state.edge pass (event_of call) ≡ true → IsOk result }
         ensures err { OnErr result (self.new ≡ self.old) }
     {
-        if let Some(next) = self.edge.not_due(moment) {
-            return Ok(Reply::NotDue { next });
-        }
-        if self.opened == self.edge.limits().opened {
-            return Ok(Reply::Full { count: self.opened });
-        }
-        let began = self.edge.refresh_begin(alloc, pass, true, moment)?;
-        match began {
-            Began::Due { refresh } => {
-                self.opened += 1;
-                Ok(Reply::Due { refresh })
-            }
-            Began::NotDue { next: _ } => unreachable!(),
-        }
-    }
-
-    fn refresh_end(&mut self, pass: u32, refresh: u64, tree: Option<Tree>) -> Reply
-        ensures { (made : Made) (h : History) (moment : ℕ) → Stands self.old made h
-            → Tells made h (pass, RefreshEnd refresh (option_map tree_view tree) moment) result self.new }
-    {
-        let ended = self.edge.refresh_end(pass, refresh, tree);
-        reply_of_refresh(refresh, ended)
-    }
-
-    fn admit(
-        &mut self,
-        alloc: Global,
-        pass: u32,
-        asked: Asked,
-        place: Place,
-        moment: Moment,
-    ) -> Result<Reply, AllocError>
-        ensures told { (made : Made) (h : History) → Stands self.old made h
-            → IfOk result (λ r. Tells made h (pass, Admit asked place moment) r self.new) }
-        ensures err { OnErr result (self.new ≡ self.old) }
-    {
-        let admitted = self
-            .edge
-            .admit(alloc, pass, self.opened, asked, place, moment)?;
-        self.opened += opened_by(&admitted);
-        Ok(reply_of(admitted))
-    }
-
-    fn fetch_end(&mut self, pass: u32, fetch: u64, outcome: Outcome) -> Reply
-        ensures { (made : Made) (h : History) (moment : ℕ) → Stands self.old made h
-            → Tells made h (pass, FetchEnd fetch outcome moment) result self.new }
-    {
-        let ended = self.edge.fetch_end(pass, fetch, outcome);
-        reply_of_fetch(fetch, ended)
-    }
-
-    fn finish(
-        &mut self,
-        pass: u32,
-        delivery: u64,
-        status: u16,
-        total: u64,
-        entity: u64,
-        moment: Moment,
-    ) -> Reply
-        ensures { (made : Made) (h : History) → Stands self.old made h
-            → Tells made h (pass, Finish delivery status total entity moment) result self.new }
-    {
-        let row = self
-            .edge
-            .finish(pass, delivery, status, total, entity, moment);
-        reply_of_delivery(delivery, row)
-    }
-
-    fn cut(&mut self, alloc: Global, moment: Moment) -> Result<Reply, AllocError>
-        ensures told { (made : Made) (h : History) (pass : ℕ) → Stands self.old made h
-            → IfOk result (λ r. Tells made h (pass, Cut moment) r self.new) }
-        ensures err { OnErr result (self.new ≡ self.old) }
-    {
-        if self.edge.unfiled().len() == 0 {
-            return Ok(Reply::NothingToCut);
-        }
-        let count = self.control.file_count();
-        if count == self.edge.limits().files {
-            return Ok(Reply::Full { count });
-        }
-        if self.opened == self.edge.limits().opened {
-            return Ok(Reply::Full { count: self.opened });
-        }
-        let head = FileHead {
-            number: self.control.filed() + 1,
-            moment,
-            origin: copy_of(&self.origin)?,
+        let entry = Entered {
+            pass,
+            call: stripped(&call),
         };
-        match self.control.file(alloc, &head, self.edge.unfiled())? {
-            Some(number) => {
-                self.edge.rows_filed();
-                self.opened += 1;
-                Ok(Reply::File { number })
-            }
-            None => unreachable!(),
+        let reply = self.state.end(pass, call);
+        take_place(alloc, &mut self.journal, &mut self.places, &reply)?;
+        self.journal.push_reserved(entry);
+        Ok(reply)
+    }
+
+    // another call: what it opens has its places
+    fn begin(&mut self, alloc: Global, pass: u32, call: Call) -> Result<Reply, AllocError>
+        requires ends { is_end (event_of call) ≡ false }
+        requires commands { is_command (event_of call) ≡ false }
+        ensures told { (made : Made) (h : History) → Stands self.old made h
+            → IfOk result (λ r. Tells made h (pass, event_of call) r self.new) }
+        ensures kind { IfOk result (λ r. answers (event_of call) r ≡ true) }
+        ensures made { self.new.made ≡ self.old.made }
+        ensures err { OnErr result (self.new ≡ self.old) }
+    {
+        reserve(alloc, &mut self.journal, self.places, 3)?;
+        let entry = Entered {
+            pass,
+            call: copied(alloc, &call)?,
+        };
+        let reply = self.state.call(alloc, pass, call)?;
+        self.places += begun_count(&reply);
+        self.journal.push_reserved(entry);
+        Ok(reply)
+    }
+}
+
+// reserves so many places of the journal, and some more
+fn reserve(
+    alloc: Global,
+    journal: &mut Journal<Entered>,
+    places: usize,
+    more: usize,
+) -> Result<(), AllocError>
+    ensures places { OnOk result (places + more ≤ journal.new.spare) }
+    ensures fits { OnOk result (places + more < 2 ^ 64) }
+    ensures no_fewer { journal.old.spare ≤ journal.new.spare }
+    ensures stored { journal.new.stored ≡ journal.old.stored }
+{
+    let Some(wanted) = places.checked_add(more) else {
+        return Err(AllocError);
+    };
+    journal.reserve(alloc, wanted)
+}
+
+// the place of an end that is answered so: that of what has ended, or one more
+fn take_place(
+    alloc: Global,
+    journal: &mut Journal<Entered>,
+    places: &mut usize,
+    reply: &Reply,
+) -> Result<(), AllocError>
+    requires one { is_not_open reply.now ≡ false → 0 < places.old }
+    requires within { places.old ≤ journal.old.spare }
+    ensures freed { is_not_open reply.now ≡ false → places.new + 1 ≡ places.old }
+    ensures same { is_not_open reply.now ≡ true → places.new ≡ places.old }
+    ensures room { OnOk result (places.new < journal.new.spare) }
+    ensures within { places.new ≤ journal.new.spare }
+    ensures stored { journal.new.stored ≡ journal.old.stored }
+    ensures open { is_not_open reply.now ≡ false → IsOk result }
+{
+    match reply {
+        Reply::NotOpen { .. } => reserve(alloc, journal, *places, 1),
+        _ => {
+            *places -= 1;
+            Ok(())
         }
     }
-
-    fn log_file(&self, number: u64) -> Result<Reply, AllocError>
-        ensures { (made : Made) (h : History) (pass : ℕ) → Stands self.now made h
-            → IfOk result (λ r. Tells made h (pass, LogFile number) r self.now) }
-    {
-        log_reply(number, self.control.file_at(number))
-    }
-
-    fn list_logs(&self, alloc: Global) -> Result<Reply, AllocError>
-        ensures { (made : Made) (h : History) (pass : ℕ) → Stands self.now made h
-            → IfOk result (λ r. Tells made h (pass, ListLogs) r self.now) }
-    {
-        Ok(Reply::Numbers {
-            list: self.control.file_numbers(alloc)?,
-        })
-    }
-
-    fn drop_log(&mut self, number: u64) -> Reply
-        ensures { (made : Made) (h : History) (pass : ℕ) → Stands self.old made h
-            → Tells made h (pass, DropLog number) result self.new }
-    {
-        let dropped = self.control.drop_file(number);
-        reply_of_drop(number, dropped)
-    }
 }
 
-fn copy_of(text: &Text) -> Result<Text, AllocError>
-    ensures { IfOk result (λ copy. copy ≡ text.now) }
+// how many deliveries, fetches and refreshes a reply opens
+fn begun_count(reply: &Reply) -> usize
+    ensures count { result ≡ begun_count reply.now }
+    ensures few { result ≤ 2 }
 {
-    Ok(text.clone()?)
-}
-
-// the reply to the reading of a log file with this text
-fn log_reply(number: u64, text: Option<&Text>) -> Result<Reply, AllocError>
-    ensures { IfOk result (λ r. r ≡ logged number (option_map (λ it. it.now) text.entry)) }
-{
-    match text {
-        Some(text) => Ok(Reply::LogText {
-            text: text.clone()?,
-        }),
-        None => Ok(Reply::Unknown { id: number }),
-    }
-}
-
-// the reply to the drop of a log file
-fn reply_of_drop(number: u64, dropped: bool) -> Reply
-    ensures { result ≡ dropped_log number dropped }
-{
-    if dropped {
-        Reply::Dropped
-    } else {
-        Reply::Unknown { id: number }
-    }
-}
-
-// the reply to a request
-fn reply_of(admitted: Admitted) -> Reply
-    ensures { result ≡ reply_of admitted }
-{
-    match admitted {
-        Admitted::Denied { delivery, rule } => Reply::Denied { delivery, rule },
-        Admitted::Hit {
-            delivery,
-            fetch,
-            kind,
-            body,
-        } => Reply::Hit {
-            delivery,
-            fetch,
-            kind,
-            body,
-        },
-        Admitted::Miss {
-            delivery,
-            fetch,
-            plan,
-        } => Reply::Miss {
-            delivery,
-            fetch,
-            plan,
-        },
-        Admitted::Full { count } => Reply::Full { count },
-    }
-}
-
-// 1 where what becomes of a request opens something, and 0 where it is refused
-fn opened_by(admitted: &Admitted) -> u64
-    ensures { result ≡ opened_by (reply_of admitted.now) }
-{
-    match admitted {
-        Admitted::Full { count: _ } => 0,
-        _ => 1,
-    }
-}
-
-// the reply to the end of a fetch
-fn reply_of_fetch(fetch: u64, ended: Option<bool>) -> Reply
-    ensures { result ≡ fetch_ended fetch ended }
-{
-    match ended {
-        Some(kept) => Reply::Ended { kept },
-        None => Reply::NotOpen { number: fetch },
-    }
-}
-
-// the reply to the end of a delivery
-fn reply_of_delivery(delivery: u64, row: Option<u64>) -> Reply
-    ensures { result ≡ finished delivery row }
-{
-    match row {
-        Some(row) => Reply::Logged { row },
-        None => Reply::NotOpen { number: delivery },
-    }
-}
-
-// the reply to the end of a refresh
-fn reply_of_refresh(refresh: u64, ended: RefreshEnded) -> Reply
-    ensures { result ≡ refresh_ended refresh ended }
-{
-    match ended {
-        RefreshEnded::Installed { generation } => Reply::Installed { generation },
-        RefreshEnded::Older { refresh } => Reply::Older { refresh },
-        RefreshEnded::Failed => Reply::Failed,
-        RefreshEnded::NotOpen => Reply::NotOpen { number: refresh },
+    match reply {
+        Reply::Denied { .. } | Reply::Hit { .. } | Reply::Due { .. } => 1,
+        Reply::Miss { .. } => 2,
+        _ => 0,
     }
 }

@@ -1,5 +1,9 @@
-use Rattle.node_core.proofs.NodeLemmas.{stands_at_start}
+use Rattle.std.proofs.Common.{ap, arith}
+use Rattle.node_core.proofs.NodeLemmas.{none_open, origin_at_start}
 use Rattle.node_core.proofs.node.Node.new.Goals as goal
 
-pub returns : goal.returns
-returns c = stands_at_start (record { limits = c.args.limits.now; origin = c.args.origin }) _ _ c.in_ok-new.ensures c.in_ok-new-2.ensures
+pub invariant_of-result : goal.invariant_of-result
+invariant_of-result c = (none_open _ _ c.in_ok-new.ensures, omega arith)
+
+pub returns-clause-made : goal.returns-clause-made
+returns-clause-made c = ap (λ o. record { limits = c.args.limits.now; origin = o }) (origin_at_start _ _ c.in_ok-new.ensures)

@@ -1,7 +1,7 @@
 use Rattle.std.proofs.Common.{◌≡◌, ℕ, ◌<◌, ◌==◌, true, false, length, ap, sym, ◌∙◌, arith}
 use Rattle.std.proofs.lemmas.Bool.{eq-eqb, ne_eqb}
 use Rattle.node_core.proofs.LogLemmas.{file_told, filed_by, full_told, heads_are, nothing_told, spent_told}
-use Rattle.node_core.proofs.node.Node.cut.Goals as goal
+use Rattle.node_core.proofs.state.State.cut.Goals as goal
 
 pub returns-then-len-eq0-clause-told : goal.returns-then-len-eq0-clause-told
 returns-then-len-eq0-clause-told c = λ made h pass s. rw (← c.self.view_is) (nothing_told made h c.self.inside.edge c.self.inside.control c.self.inside.origin c.self.inside.opened (rw (← c.self.view_is) at s) pass c.args.moment

@@ -1,6 +1,6 @@
 use Rattle.std.proofs.lemmas.Bool.{eq-eqb, ne_eqb}
-use Rattle.node_core.proofs.NodeLemmas.{due_told, forced_number, full_told, not_due_told}
-use Rattle.node_core.proofs.node.Node.refresh_begin.Goals as goal
+use Rattle.node_core.proofs.StateLemmas.{due_told, forced_number, full_told, not_due_told}
+use Rattle.node_core.proofs.state.State.refresh_begin.Goals as goal
 
 pub returns-in-Some-clause-told : goal.returns-in-Some-clause-told
 returns-in-Some-clause-told c = λ made h s. rw (← c.self.view_is) (not_due_told made h c.self.inside.edge c.self.inside.edge c.self.inside.control c.self.inside.origin c.self.inside.opened (rw (← c.self.view_is) at s) c.args.pass c.args.moment _ c.in-Some.ensures)

@@ -1,5 +1,0 @@
-use Rattle.node_core.proofs.LogLemmas.{list_told}
-use Rattle.node_core.proofs.node.Node.list_logs.Goals as goal
-
-pub returns : goal.returns
-returns c = λ made h pass s. rw (← c.self.view_is) (list_told made h c.self.inside.edge c.self.inside.control c.self.inside.origin c.self.inside.opened (rw (← c.self.view_is) at s) pass _ c.in_ok-file_numbers.ensures)

@@ -1,6 +1,0 @@
-use Rattle.std.proofs.Common.{ap, ◌∙◌}
-use Rattle.node_core.proofs.LogLemmas.{log_ok}
-use Rattle.node_core.proofs.node.Node.log_file.Goals as goal
-
-pub returns : goal.returns
-returns c = λ made h pass s. rw (← c.self.view_is) (log_ok made h c.self.inside.edge c.self.inside.control c.self.inside.origin c.self.inside.opened (rw (← c.self.view_is) at s) pass c.args.number _ _ c.file_at.ensures c.log_reply.ensures)

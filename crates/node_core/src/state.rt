@@ -1,0 +1,415 @@
+//! What a node has: its two sides, and what each call makes of them.
+
+ghost use Rattle.std.specs.Prelude.{◌≡◌, ◌≤◌, ◌+◌, ℕ, [], true, false, IfOk, OnErr};
+ghost use Rattle.std.specs.List.{list_any};
+ghost use Rattle.std.specs.Option.{option_map};
+ghost use Rattle.delivery_core.specs.Open.{is_named};
+ghost use Rattle.delivery_core.specs.Traces.{reply_of, fetch_ended, finished, refresh_ended};
+ghost use Rattle.history.specs.After.{opened_by};
+ghost use Rattle.history.specs.Event.{History, event_of, Admit, FetchEnd, Finish, RefreshBegin, RefreshEnd, Cut, DropLog, ListLogs, LogFile};
+ghost use Rattle.metadata_objects.specs.Tree.{tree_view};
+ghost use Rattle.history.specs.World.{Made};
+ghost use Rattle.node_core.specs.Answers.{answers, answers_admit, answers_cut, answers_drop_log, answers_finish, answers_fetch_end, answers_list_logs, answers_log_file, answers_refresh_begin, answers_refresh_end};
+ghost use Rattle.node_core.specs.Call.{is_command, is_end};
+ghost use Rattle.delivery_core.specs.OpenCount.{begun_count, open_count};
+ghost use Rattle.node_core.specs.State.{cancel_of_none, ends_open, Ends, Follows, Says};
+ghost use Rattle.node_core.specs.Logs.{dropped_log, logged};
+
+use cdni_base::{Asked, Limits, Moment, Text};
+use cdni_log::FileHead;
+use control_core::Control;
+use delivery_core::{Admitted, Began, Edge, RefreshEnded};
+use history::{Call, Reply};
+use listing::Listing;
+use location_acl::Place;
+use metadata_objects::Tree;
+use std::alloc::{AllocError, Global};
+use std::marker::Model;
+use trigger_command::IdList;
+use upstream_gate::Outcome;
+
+/// What is installed, kept and open, the log files with the host that they claim, and how many answers opened something.
+#[derive(Drop)]
+pub(crate) struct State {
+    edge: Edge,
+    control: Control,
+    origin: Text,
+    opened: u64,
+}
+
+impl Model for State {
+    ghost use Rattle.node_core.specs.State.{StateView, IsSound};
+
+    ghost Value = { StateView };
+
+    ghost use Rattle.std.specs.Coded.{codes, coded_list, coded×, coded_ℕ};
+    ghost use Rattle.metadata_objects.specs.Coding.{level_code};
+    ghost use Rattle.metadata_objects.specs.contracts.generic.Generic as generic;
+    ghost use Rattle.pattern_match.specs.contracts.pattern.Pattern as pattern;
+
+    ghost coded = { Prim.hlevel (
+      codes,
+      level_code (coded_list (coded× pattern.the_row.coded (coded×
+          (coded_list generic.the_row.coded) coded_ℕ))),
+    ) };
+
+    ghost view = { λ c. record { edge = c.edge; control = c.control; origin = c.origin; opened = c.opened } };
+
+    ghost invariant = { λ c. IsSound c.edge c.control c.opened };
+}
+
+impl State {
+    /// What the empty history leaves under these limits.
+    ///
+    /// # Errors
+    /// Want of memory.
+    pub fn new(alloc: Global, limits: &Limits, origin: Text) -> Result<State, AllocError>
+        ensures { IfOk result (λ state. Follows state (record { limits = limits.now; origin = origin }) []) }
+    {
+        let _opened = limits.opened;
+        Ok(State {
+            edge: Edge::new(alloc, limits)?,
+            control: Control::new(alloc, limits)?,
+            origin,
+            opened: 0,
+        })
+    }
+
+    /// Takes in the end of a fetch, of a refresh or of a delivery, and answers it as the history before it says. It takes
+    /// no memory.
+    pub fn end(&mut self, pass: u32, call: Call) -> Reply
+        requires { is_end (event_of call) ≡ true }
+        ensures told { (made : Made) (h : History) → Follows self.old made h
+            → Says made h (pass, event_of call) result self.new }
+        ensures kind { answers (event_of call) result ≡ true }
+        ensures origin { self.new.origin ≡ self.old.origin }
+        ensures ends { Ends self.old self.new (ends_open self.old.edge pass (event_of call)) result }
+    {
+        match call {
+            Call::RefreshEnd {
+                refresh,
+                tree,
+                moment: _,
+            } => self.refresh_end(pass, refresh, tree),
+            Call::FetchEnd {
+                fetch,
+                outcome,
+                moment: _,
+            } => self.fetch_end(pass, fetch, outcome),
+            Call::Finish {
+                delivery,
+                status,
+                total,
+                entity,
+                moment,
+            } => self.finish(pass, delivery, status, total, entity, moment),
+            _ => unreachable!(),
+        }
+    }
+
+    /// Takes in another call, and answers it as the history before it says.
+    ///
+    /// # Errors
+    /// Want of memory. Nothing has changed then.
+    pub fn call(&mut self, alloc: Global, pass: u32, call: Call) -> Result<Reply, AllocError>
+        requires ends { is_end (event_of call) ≡ false }
+        requires commands { is_command (event_of call) ≡ false }
+        ensures told { (made : Made) (h : History) → Follows self.old made h
+            → IfOk result (λ r. Says made h (pass, event_of call) r self.new) }
+        ensures kind { IfOk result (λ r. answers (event_of call) r ≡ true) }
+        ensures origin { self.new.origin ≡ self.old.origin }
+        ensures places { IfOk result (λ r. open_count self.new.edge ≤ open_count self.old.edge + begun_count r) }
+        ensures err { OnErr result (self.new ≡ self.old) }
+    {
+        match call {
+            Call::RefreshBegin { moment } => self.refresh_begin(alloc, pass, moment),
+            Call::Admit {
+                asked,
+                place,
+                moment,
+            } => self.admit(alloc, pass, asked, place, moment),
+            Call::Cut { moment } => self.cut(alloc, moment),
+            Call::LogFile { number } => self.log_file(number),
+            Call::ListLogs => self.list_logs(alloc),
+            Call::DropLog { number } => Ok(self.drop_log(number)),
+            Call::Advance { id, moment: _ } => Ok(Reply::Unknown { id }),
+            Call::Delete { id } => Ok(Reply::Unknown { id }),
+            Call::ReadStatus { id } => Ok(Reply::Unknown { id }),
+            Call::Cancel { ids, moment: _ } => Ok(no_cancel(alloc, &ids)),
+            Call::List { filter } => Ok(Reply::Collection {
+                filter,
+                ids: Listing::new(alloc),
+            }),
+            _ => unreachable!(),
+        }
+    }
+
+    fn refresh_begin(
+        &mut self,
+        alloc: Global,
+        pass: u32,
+        moment: Moment,
+    ) -> Result<Reply, AllocError>
+        ensures told { (made : Made) (h : History) → Follows self.old made h
+            → IfOk result (λ r. Says made h (pass, RefreshBegin moment) r self.new) }
+        ensures kind { IfOk result (λ r. answers_refresh_begin r ≡ true) }
+        ensures origin { self.new.origin ≡ self.old.origin }
+        ensures places { IfOk result (λ r. open_count self.new.edge ≤ open_count self.old.edge + begun_count r) }
+        ensures err { OnErr result (self.new ≡ self.old) }
+    {
+        if let Some(next) = self.edge.not_due(moment) {
+            return Ok(Reply::NotDue { next });
+        }
+        if self.opened == self.edge.limits().opened {
+            return Ok(Reply::Full { count: self.opened });
+        }
+        let began = self.edge.refresh_begin(alloc, pass, true, moment)?;
+        match began {
+            Began::Due { refresh } => {
+                self.opened += 1;
+                Ok(Reply::Due { refresh })
+            }
+            Began::NotDue { next: _ } => unreachable!(),
+        }
+    }
+
+    fn refresh_end(&mut self, pass: u32, refresh: u64, tree: Option<Tree>) -> Reply
+        ensures told { (made : Made) (h : History) (moment : ℕ) → Follows self.old made h
+            → Says made h (pass, RefreshEnd refresh (option_map tree_view tree) moment) result self.new }
+        ensures kind { answers_refresh_end result ≡ true }
+        ensures origin { self.new.origin ≡ self.old.origin }
+        ensures ends { Ends self.old self.new (list_any (is_named refresh pass) self.old.edge.refreshes) result }
+    {
+        let ended = self.edge.refresh_end(pass, refresh, tree);
+        reply_of_refresh(refresh, ended)
+    }
+
+    fn admit(
+        &mut self,
+        alloc: Global,
+        pass: u32,
+        asked: Asked,
+        place: Place,
+        moment: Moment,
+    ) -> Result<Reply, AllocError>
+        ensures told { (made : Made) (h : History) → Follows self.old made h
+            → IfOk result (λ r. Says made h (pass, Admit asked place moment) r self.new) }
+        ensures kind { IfOk result (λ r. answers_admit r ≡ true) }
+        ensures origin { self.new.origin ≡ self.old.origin }
+        ensures places { IfOk result (λ r. open_count self.new.edge ≤ open_count self.old.edge + begun_count r) }
+        ensures err { OnErr result (self.new ≡ self.old) }
+    {
+        let admitted = self
+            .edge
+            .admit(alloc, pass, self.opened, asked, place, moment)?;
+        self.opened += opened_by(&admitted);
+        Ok(reply_of(admitted))
+    }
+
+    fn fetch_end(&mut self, pass: u32, fetch: u64, outcome: Outcome) -> Reply
+        ensures told { (made : Made) (h : History) (moment : ℕ) → Follows self.old made h
+            → Says made h (pass, FetchEnd fetch outcome moment) result self.new }
+        ensures kind { answers_fetch_end result ≡ true }
+        ensures origin { self.new.origin ≡ self.old.origin }
+        ensures ends { Ends self.old self.new (list_any (is_named fetch pass) self.old.edge.fetches) result }
+    {
+        let ended = self.edge.fetch_end(pass, fetch, outcome);
+        reply_of_fetch(fetch, ended)
+    }
+
+    fn finish(
+        &mut self,
+        pass: u32,
+        delivery: u64,
+        status: u16,
+        total: u64,
+        entity: u64,
+        moment: Moment,
+    ) -> Reply
+        ensures told { (made : Made) (h : History) → Follows self.old made h
+            → Says made h (pass, Finish delivery status total entity moment) result self.new }
+        ensures kind { answers_finish result ≡ true }
+        ensures origin { self.new.origin ≡ self.old.origin }
+        ensures ends { Ends self.old self.new (list_any (is_named delivery pass) self.old.edge.deliveries) result }
+    {
+        let row = self
+            .edge
+            .finish(pass, delivery, status, total, entity, moment);
+        reply_of_delivery(delivery, row)
+    }
+
+    fn cut(&mut self, alloc: Global, moment: Moment) -> Result<Reply, AllocError>
+        ensures told { (made : Made) (h : History) (pass : ℕ) → Follows self.old made h
+            → IfOk result (λ r. Says made h (pass, Cut moment) r self.new) }
+        ensures kind { IfOk result (λ r. answers_cut r ≡ true) }
+        ensures origin { self.new.origin ≡ self.old.origin }
+        ensures same { open_count self.new.edge ≡ open_count self.old.edge }
+        ensures err { OnErr result (self.new ≡ self.old) }
+    {
+        if self.edge.unfiled().len() == 0 {
+            return Ok(Reply::NothingToCut);
+        }
+        let count = self.control.file_count();
+        if count == self.edge.limits().files {
+            return Ok(Reply::Full { count });
+        }
+        if self.opened == self.edge.limits().opened {
+            return Ok(Reply::Full { count: self.opened });
+        }
+        let head = FileHead {
+            number: self.control.filed() + 1,
+            moment,
+            origin: copy_of(&self.origin)?,
+        };
+        match self.control.file(alloc, &head, self.edge.unfiled())? {
+            Some(number) => {
+                self.edge.rows_filed();
+                self.opened += 1;
+                Ok(Reply::File { number })
+            }
+            None => unreachable!(),
+        }
+    }
+
+    fn log_file(&self, number: u64) -> Result<Reply, AllocError>
+        ensures told { (made : Made) (h : History) (pass : ℕ) → Follows self.now made h
+            → IfOk result (λ r. Says made h (pass, LogFile number) r self.now) }
+        ensures kind { IfOk result (λ r. answers_log_file r ≡ true) }
+    {
+        log_reply(number, self.control.file_at(number))
+    }
+
+    fn list_logs(&self, alloc: Global) -> Result<Reply, AllocError>
+        ensures told { (made : Made) (h : History) (pass : ℕ) → Follows self.now made h
+            → IfOk result (λ r. Says made h (pass, ListLogs) r self.now) }
+        ensures kind { IfOk result (λ r. answers_list_logs r ≡ true) }
+    {
+        Ok(Reply::Numbers {
+            list: self.control.file_numbers(alloc)?,
+        })
+    }
+
+    fn drop_log(&mut self, number: u64) -> Reply
+        ensures told { (made : Made) (h : History) (pass : ℕ) → Follows self.old made h
+            → Says made h (pass, DropLog number) result self.new }
+        ensures kind { answers_drop_log result ≡ true }
+        ensures origin { self.new.origin ≡ self.old.origin }
+        ensures same { self.new.edge ≡ self.old.edge }
+    {
+        let dropped = self.control.drop_file(number);
+        reply_of_drop(number, dropped)
+    }
+}
+
+fn copy_of(text: &Text) -> Result<Text, AllocError>
+    ensures { IfOk result (λ copy. copy ≡ text.now) }
+{
+    Ok(text.clone()?)
+}
+
+// the reply to the reading of a log file with this text
+fn log_reply(number: u64, text: Option<&Text>) -> Result<Reply, AllocError>
+    ensures { IfOk result (λ r. r ≡ logged number (option_map (λ it. it.now) text.entry)) }
+{
+    match text {
+        Some(text) => Ok(Reply::LogText {
+            text: text.clone()?,
+        }),
+        None => Ok(Reply::Unknown { id: number }),
+    }
+}
+
+// the reply to the drop of a log file
+fn reply_of_drop(number: u64, dropped: bool) -> Reply
+    ensures { result ≡ dropped_log number dropped }
+{
+    if dropped {
+        Reply::Dropped
+    } else {
+        Reply::Unknown { id: number }
+    }
+}
+
+// the reply to a request
+fn reply_of(admitted: Admitted) -> Reply
+    ensures { result ≡ reply_of admitted }
+{
+    match admitted {
+        Admitted::Denied { delivery, rule } => Reply::Denied { delivery, rule },
+        Admitted::Hit {
+            delivery,
+            fetch,
+            kind,
+            body,
+        } => Reply::Hit {
+            delivery,
+            fetch,
+            kind,
+            body,
+        },
+        Admitted::Miss {
+            delivery,
+            fetch,
+            plan,
+        } => Reply::Miss {
+            delivery,
+            fetch,
+            plan,
+        },
+        Admitted::Full { count } => Reply::Full { count },
+    }
+}
+
+// 1 where what becomes of a request opens something, and 0 where it is refused
+fn opened_by(admitted: &Admitted) -> u64
+    ensures { result ≡ opened_by (reply_of admitted.now) }
+{
+    match admitted {
+        Admitted::Full { count: _ } => 0,
+        _ => 1,
+    }
+}
+
+// the reply to the end of a fetch
+fn reply_of_fetch(fetch: u64, ended: Option<bool>) -> Reply
+    ensures { result ≡ fetch_ended fetch ended }
+{
+    match ended {
+        Some(kept) => Reply::Ended { kept },
+        None => Reply::NotOpen { number: fetch },
+    }
+}
+
+// the reply to the end of a delivery
+fn reply_of_delivery(delivery: u64, row: Option<u64>) -> Reply
+    ensures { result ≡ finished delivery row }
+{
+    match row {
+        Some(row) => Reply::Logged { row },
+        None => Reply::NotOpen { number: delivery },
+    }
+}
+
+// the reply to the end of a refresh
+fn reply_of_refresh(refresh: u64, ended: RefreshEnded) -> Reply
+    ensures { result ≡ refresh_ended refresh ended }
+{
+    match ended {
+        RefreshEnded::Installed { generation } => Reply::Installed { generation },
+        RefreshEnded::Older { refresh } => Reply::Older { refresh },
+        RefreshEnded::Failed => Reply::Failed,
+        RefreshEnded::NotOpen => Reply::NotOpen { number: refresh },
+    }
+}
+
+// the reply to a cancel where there is no trigger
+fn no_cancel(alloc: Global, ids: &IdList) -> Reply
+    ensures { result ≡ cancel_of_none ids.now }
+{
+    match ids.as_slice() {
+        [] => Reply::Statuses {
+            list: Listing::new(alloc),
+        },
+        [first, ..] => Reply::Unknown { id: *first },
+    }
+}

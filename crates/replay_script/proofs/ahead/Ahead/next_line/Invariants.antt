@@ -1,8 +1,8 @@
 use Rattle.std.proofs.Common.{◌≡◌, ◌-◌, ◌<◌, length}
-use Rattle.http_node.specs.Ahead.{Moves}
+use Rattle.replay_script.specs.Ahead.{Moves}
 use Rattle.replay_script.specs.Lines.{NoFeed}
 use Rattle.replay_script.specs.declared.step.TheConstants.{LINE_LIMIT}
-use Rattle.http_node.proofs.ahead.Ahead.next_line.Given as goal
+use Rattle.replay_script.proofs.ahead.Ahead.next_line.Given as goal
 
 abbrev pub invariant-pieces : goal.invariant-pieces
 invariant-pieces g l = record {

@@ -1,7 +1,7 @@
 use Rattle.std.proofs.Common.{sym, ◌∙◌, subst, length-append}
-use Rattle.http_node.specs.Ahead.{StaysShort}
-use Rattle.http_node.proofs.AheadLemmas.{moves_read, moves_on, moves_on-nil, plain_on, moves_long, plain_both}
-use Rattle.http_node.proofs.ahead.Ahead.next_line.Goals as goal
+use Rattle.replay_script.specs.Ahead.{StaysShort}
+use Rattle.replay_script.proofs.AheadLemmas.{moves_read, moves_on, moves_on-nil, plain_on, moves_long, plain_both}
+use Rattle.replay_script.proofs.ahead.Ahead.next_line.Goals as goal
 
 pub returns-in-Line-clause-line : goal.returns-in-Line-clause-line
 returns-in-Line-clause-line g c =

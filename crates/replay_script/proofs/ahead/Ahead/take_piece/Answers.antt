@@ -1,6 +1,6 @@
 use Rattle.std.proofs.Common.{length, refl, ap, arith, length-append}
-use Rattle.http_node.proofs.AheadLemmas.{place_within, takes_line, takes_long, takes_more, stays_line, stays_open}
-use Rattle.http_node.proofs.ahead.Ahead.take_piece.Goals as goal
+use Rattle.replay_script.proofs.AheadLemmas.{place_within, takes_line, takes_long, takes_more, stays_line, stays_open}
+use Rattle.replay_script.proofs.ahead.Ahead.take_piece.Goals as goal
 
 pub skip-requires : goal.skip-requires
 skip-requires c = place_within c.args.self.now.ahead c.window-window.result.now _ c.in-Some.place c.window-window.ensures c.in-Some.ensures

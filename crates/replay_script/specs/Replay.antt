@@ -3,8 +3,8 @@ use Rattle.std.specs.Prelude.{◌≡◌, ℕ, ◌<◌, List, length, take, None,
 use Rattle.std.specs.declared.option.Option.{Option}
 use Rattle.std.specs.Io.KnownBytes.{Appends, Consumes, IsAtEnd}
 use Rattle.replay_script.specs.Script.{answers, answers_read}
-use Rattle.http_node.specs.declared.replay.ReplayEnd.{ReplayEnd}
-use Rattle.http_node.specs.declared.replay.ReplayEnd.TheVariants as replay_end
+use Rattle.replay_script.specs.declared.script.ReplayEnd.{ReplayEnd}
+use Rattle.replay_script.specs.declared.script.ReplayEnd.TheVariants as replay_end
 
 -- where the input tells its bytes, they are these
 abbrev pub IsTold : Option (List ℕ) → List ℕ → Type 0

@@ -1,12 +1,13 @@
 //! What is read ahead of the lines of a source.
 
 ghost use Rattle.std.specs.Prelude.{◌≡◌, ℕ, ◌<◌, ◌≤◌, true, false, [], length, take, drop, IfOk};
-ghost use Rattle.http_node.specs.Ahead.{EndsLine, Refills, TakesPiece, ReadsLine, HasLineCause};
+ghost use Rattle.replay_script.specs.Ahead.{EndsLine, Refills, TakesPiece, ReadsLine, HasLineCause};
 ghost use Rattle.edge_base.specs.Source.{HasReadCause};
 
+use crate::step::LINE_LIMIT;
 use edge_base::{Source, Took};
 use memchr::memchr;
-use replay_script::{LINE_FEED, LINE_LIMIT};
+use script_line::LINE_FEED;
 use std::alloc::{AllocError, Global};
 use std::marker::Model;
 
@@ -54,8 +55,8 @@ pub struct Ahead {
 impl Model for Ahead {
     ghost use Rattle.std.specs.Prelude.{ℕ, ◌<◌, ◌≤◌, List, take, drop};
     ghost use Rattle.std.specs.Vec.{vec_len};
-    ghost use Rattle.http_node.specs.Lines.{Buffered};
-    ghost use Rattle.http_node.specs.declared.ahead.TheConstants.{READ_SIZE};
+    ghost use Rattle.replay_script.specs.Lines.{Buffered};
+    ghost use Rattle.replay_script.specs.declared.ahead.TheConstants.{READ_SIZE};
 
     ghost Value = { Buffered };
 

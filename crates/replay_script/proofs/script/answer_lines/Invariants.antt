@@ -2,8 +2,8 @@ use Rattle.cdni_base.specs.Limits.{default_limits}
 use Rattle.node_core.specs.Node.{Stands}
 use Rattle.replay_script.specs.Script.{made_with}
 use Rattle.std.proofs.Common.{◌≡◌, [], ◌+◌, ◌-◌, ◌≤◌}
-use Rattle.http_node.proofs.ReplayLemmas.{Running}
-use Rattle.http_node.proofs.replay.answer_lines.Given as goal
+use Rattle.replay_script.proofs.ReplayLemmas.{Running}
+use Rattle.replay_script.proofs.script.answer_lines.Given as goal
 use Rattle.replay_script.specs.declared.step.TheConstants.{SCRIPT_LIMIT}
 
 abbrev pub invariant-lines : goal.invariant-lines

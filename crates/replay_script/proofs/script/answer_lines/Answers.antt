@@ -1,8 +1,8 @@
 use Rattle.replay_script.proofs.ScriptLemmas.{next_said-fits}
 use Rattle.std.proofs.Common.{length, refl, arith, sym, ◌∙◌, ap, lit≤}
 use Rattle.std.proofs.lemmas.Bool.{eqb-true, eqb-false}
-use Rattle.http_node.proofs.ReplayLemmas.{running_start, turn_cut, turn_cut_reads, turn_done, replay_unread, replay_unread_reads, replay_memory, replay_memory_reads, replay_done, replay_done_reads, replay_open, replay_open_reads, replay_long, replay_long_reads, replay_none, replay_none_reads}
-use Rattle.http_node.proofs.replay.answer_lines.Goals as goal
+use Rattle.replay_script.proofs.ReplayLemmas.{running_start, turn_cut, turn_cut_reads, turn_done, replay_unread, replay_unread_reads, replay_memory, replay_memory_reads, replay_done, replay_done_reads, replay_open, replay_open_reads, replay_long, replay_long_reads, replay_none, replay_none_reads}
+use Rattle.replay_script.proofs.script.answer_lines.Goals as goal
 
 pub lines-init : goal.lines-init
 lines-init g c = record {

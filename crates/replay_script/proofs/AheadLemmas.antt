@@ -10,10 +10,11 @@ use Rattle.std.proofs.lemmas.List.{take-append-drop, drop-take, drop-drop, lengt
 use Rattle.std.proofs.lemmas.List.Folds.{list_all-append}
 use Rattle.memchr.specs.Find.{IsFirstByte, is_byte}
 use Rattle.replay_script.specs.Lines.{NoFeed}
-use Rattle.http_node.specs.Ahead.{Moves, EndsLine, Goes, StaysShort, TakesPiece}
-use Rattle.http_node.specs.declared.ahead.Piece.TheVariants as piece
-use Rattle.http_node.specs.declared.ahead.TheConstants.{READ_SIZE}
-use Rattle.replay_script.specs.declared.step.TheConstants.{LINE_FEED, LINE_LIMIT}
+use Rattle.replay_script.specs.Ahead.{Moves, EndsLine, Goes, StaysShort, TakesPiece}
+use Rattle.replay_script.specs.declared.ahead.Piece.TheVariants as piece
+use Rattle.replay_script.specs.declared.ahead.TheConstants.{READ_SIZE}
+use Rattle.script_line.specs.declared.answer.TheConstants.{LINE_FEED}
+use Rattle.replay_script.specs.declared.step.TheConstants.{LINE_LIMIT}
 
 abbrev plain : ℕ → Bool
 plain byte = not (byte == LINE_FEED)

@@ -7,15 +7,16 @@ use Rattle.std.proofs.KnownBytes.{Consumes-trans, Consumes-nil, Appends-trans, A
 use Rattle.std.proofs.Math.Seq.{take-append-add, take-append_seam, take-length}
 use Rattle.std.proofs.lemmas.List.{take-append-le}
 use Rattle.cdni_base.specs.Limits.{default_limits}
-use Rattle.http_node.specs.Ahead.{Moves}
-use Rattle.replay_script.specs.Call.{Said}
+use Rattle.replay_script.specs.Ahead.{Moves}
+use Rattle.script_line.specs.Line.{Said}
 use Rattle.node_core.specs.Node.{NodeView, Stands}
 use Rattle.replay_script.specs.Lines.{Line, lines_of, whole_lines, NoFeed}
 use Rattle.replay_script.specs.declared.step.Stepped.TheVariants as stepped
 use Rattle.replay_script.specs.Script.{next_said, Past, made_with, grown, answer_of, Answered, with_text, answers_from, answers_of, answers, answers_read, StepsTo}
-use Rattle.http_node.specs.Replay.{IsTold, AppendsFront, AppendsPart, Ends, Reads}
-use Rattle.replay_script.specs.declared.step.TheConstants.{LINE_FEED, LINE_LIMIT}
-use Rattle.http_node.specs.declared.replay.ReplayEnd.TheVariants as replay_end
+use Rattle.replay_script.specs.Replay.{IsTold, AppendsFront, AppendsPart, Ends, Reads}
+use Rattle.script_line.specs.declared.answer.TheConstants.{LINE_FEED}
+use Rattle.replay_script.specs.declared.step.TheConstants.{LINE_LIMIT}
+use Rattle.replay_script.specs.declared.script.ReplayEnd.TheVariants as replay_end
 use Rattle.replay_script.proofs.ScriptLemmas.{whole_lines-line, whole_lines-none, whole_lines-long, answers_nothing, lines_of-line, lines_of-open, lines_of-begins, next_said-open, next_said-long, next_said-fits, answers_stop, answers_next, answers_none, with_text-trans}
 
 -- the answers of these bytes, with anything behind them, are what was written and then the answers of the lines from this place on

@@ -1,7 +1,7 @@
 //! The lines of any source, one after the other.
 
 ghost use Rattle.std.specs.Prelude.{◌≡◌, [], IfOk};
-ghost use Rattle.http_node.specs.Ahead.{ReadsLine, HasLineCause};
+ghost use Rattle.replay_script.specs.Ahead.{ReadsLine, HasLineCause};
 
 use crate::ahead::{Ahead, LineRead};
 use edge_base::Source;
@@ -18,7 +18,7 @@ pub struct Lines {
 
 impl Model for Lines {
     ghost use Rattle.std.specs.Prelude.{if◌then◌else◌};
-    ghost use Rattle.http_node.specs.Lines.{Buffered};
+    ghost use Rattle.replay_script.specs.Lines.{Buffered};
 
     ghost Value = { Buffered };
 

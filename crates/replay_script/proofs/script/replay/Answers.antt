@@ -1,8 +1,8 @@
 use Rattle.std.proofs.Common.{[], ap, subst}
-use Rattle.http_node.proofs.ReplayLemmas.{replay_unstarted, replay_unstarted_reads}
+use Rattle.replay_script.proofs.ReplayLemmas.{replay_unstarted, replay_unstarted_reads}
 use Rattle.node_core.specs.Node.{Stands}
 use Rattle.replay_script.specs.Script.{made_with}
-use Rattle.http_node.proofs.replay.replay.Goals as goal
+use Rattle.replay_script.proofs.script.replay.Goals as goal
 
 pub returns-in_default-clause-ends : goal.returns-in_default-clause-ends
 returns-in_default-clause-ends g c = replay_unstarted _ _

@@ -6,11 +6,12 @@ use Rattle.edge_base.specs.Causes.{Rose}
 use Rattle.edge_base.specs.declared.source.Took.{Took}
 use Rattle.edge_base.specs.declared.source.Took.TheVariants as took
 use Rattle.replay_script.specs.Lines.{NoFeed}
-use Rattle.http_node.specs.declared.ahead.LineRead.{LineRead}
-use Rattle.http_node.specs.declared.ahead.LineRead.TheVariants as line_read
-use Rattle.http_node.specs.declared.ahead.Piece.{Piece}
-use Rattle.http_node.specs.declared.ahead.Piece.TheVariants as piece
-use Rattle.replay_script.specs.declared.step.TheConstants.{LINE_FEED, LINE_LIMIT}
+use Rattle.replay_script.specs.declared.ahead.LineRead.{LineRead}
+use Rattle.replay_script.specs.declared.ahead.LineRead.TheVariants as line_read
+use Rattle.replay_script.specs.declared.ahead.Piece.{Piece}
+use Rattle.replay_script.specs.declared.ahead.Piece.TheVariants as piece
+use Rattle.script_line.specs.declared.answer.TheConstants.{LINE_FEED}
+use Rattle.replay_script.specs.declared.step.TheConstants.{LINE_LIMIT}
 
 -- these bytes were taken off the front of what was read ahead and then of what the source had left
 pub record Moves (old new : Option (List ℕ)) (before after bytes : List ℕ) : Type 0 where

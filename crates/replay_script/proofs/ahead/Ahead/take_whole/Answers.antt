@@ -1,6 +1,6 @@
 use Rattle.std.proofs.Common.{sym, ◌∙◌, ap}
-use Rattle.http_node.proofs.AheadLemmas.{whole_line}
-use Rattle.http_node.proofs.ahead.Ahead.take_whole.Goals as goal
+use Rattle.replay_script.proofs.AheadLemmas.{whole_line}
+use Rattle.replay_script.proofs.ahead.Ahead.take_whole.Goals as goal
 
 pub returns-in-Some-clause-whole : goal.returns-in-Some-clause-whole
 returns-in-Some-clause-whole c = λ is. rw c.rest.ensures.value at

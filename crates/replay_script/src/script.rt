@@ -1,18 +1,18 @@
-//! The answers of a script, line by line.
+//! The answers of a whole script.
 
 ghost use Rattle.std.specs.Prelude.{◌≡◌, ◌≢◌, ◌+◌, ◌≤◌, []};
 ghost use Rattle.cdni_base.specs.Limits.{default_limits};
 ghost use Rattle.edge_base.specs.Causes.{Rose};
-ghost use Rattle.http_node.specs.Replay.{Ends, Reads};
+ghost use Rattle.replay_script.specs.Replay.{Ends, Reads};
 ghost use Rattle.node_core.specs.Node.{Stands};
 ghost use Rattle.replay_script.specs.Script.{made_with};
 
 use crate::ahead::LineRead;
 use crate::lines::Lines;
+use crate::step::{Stepped, answer_one, scripted_node};
 use cdni_base::Limits;
 use edge_base::{Sink, Source, write_counted};
 use node_core::Node;
-use replay_script::{Stepped, answer_one, scripted_node};
 use std::alloc::Global;
 
 /// How a replay ended.
@@ -31,8 +31,11 @@ pub enum ReplayEnd {
     Memory,
 }
 
-// writes the answers of the script that the input gives
-pub(crate) fn replay<S: Source, K: Sink>(alloc: Global, input: &mut S, output: &mut K) -> ReplayEnd
+/// Reads a script from `input` and writes its answers to `output`. It always returns. It is `Done` where the input was
+/// read to its end; `NotALine` where a line was read that is no script line, and every answer before it was written;
+/// `ReadFault` and `WriteFault` exactly where the input's, the output's count of faults rose in this call, as far as a
+/// count that stands at 2^64 - 1 can tell; and `Memory` for want of memory.
+pub fn replay<S: Source, K: Sink>(alloc: Global, input: &mut S, output: &mut K) -> ReplayEnd
     ensures ends { Ends (S.left input.old) (S.left input.new) (K.held output.old) (K.held output.new) result }
     ensures reads { Reads (S.left input.old) (S.left input.new) (K.held output.old) (K.held output.new) result }
     ensures read_later { S.faults input.old ≤ S.faults input.new }

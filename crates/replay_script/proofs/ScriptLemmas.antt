@@ -129,7 +129,12 @@ no_command_said moment text said (inr (inr (inr (inr (inl is))))) = same_kind sa
 no_command_said moment text said (inr (inr (inr (inr (inr (inl is)))))) = same_kind said _ is.call refl
 no_command_said moment text said (inr (inr (inr (inr (inr (inr (inl is))))))) = same_kind said _ is.call refl
 no_command_said moment text said (inr (inr (inr (inr (inr (inr (inr (inl is)))))))) = same_kind said _ is.call refl
-no_command_said moment text said (inr (inr (inr (inr (inr (inr (inr (inr is)))))))) = same_kind said _ is.call refl
+no_command_said moment text said (inr (inr (inr (inr (inr (inr (inr (inr (inl is))))))))) = same_kind said _ is.call refl
+no_command_said moment text said (inr (inr (inr (inr (inr (inr (inr (inr (inr (inl is)))))))))) = same_kind said _ is.call refl
+no_command_said moment text said (inr (inr (inr (inr (inr (inr (inr (inr (inr (inr (inl is))))))))))) = same_kind said _ is.call refl
+no_command_said moment text said (inr (inr (inr (inr (inr (inr (inr (inr (inr (inr (inr (inl is)))))))))))) = same_kind said _ is.call refl
+no_command_said moment text said (inr (inr (inr (inr (inr (inr (inr (inr (inr (inr (inr (inr (inl is))))))))))))) = same_kind said _ is.call refl
+no_command_said moment text said (inr (inr (inr (inr (inr (inr (inr (inr (inr (inr (inr (inr (inr is))))))))))))) = same_kind said _ is.call refl
 
 -- no line says a command yet
 pub no_command : (line : List ℕ) (scripted : Scripted) → Says line (Calls scripted) → is_command scripted.1.event ≡ false

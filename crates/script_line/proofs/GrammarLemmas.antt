@@ -31,7 +31,7 @@ use Rattle.location_acl.specs.declared.footprint.Place.{Place}
 use Rattle.metadata_objects.specs.Host.{host_index_of_text}
 use Rattle.hex.specs.Hex.{decode_of}
 use Rattle.cdni_base.specs.Limits.{Bounds, AreInRange}
-use Rattle.history.specs.Event.{Event, Admit, FetchEnd, Finish, RefreshEnd, DropLog, ListLogs, LogFile}
+use Rattle.history.specs.Event.{Event, Admit, FetchEnd, Finish, ListLogs, Cancel, Lists}
 use Rattle.upstream_gate.specs.Got.{GotParts, IsGot, is_got_status}
 use Rattle.upstream_gate.specs.declared.got.TheConstants.{BODY_MAX}
 use Rattle.upstream_gate.specs.declared.outcome.Outcome.TheVariants as outcome
@@ -39,8 +39,10 @@ use Rattle.script_line.specs.Line.{Noted, Said, Sets, Calls, said_of, on_pass, G
 use Rattle.script_line.specs.declared.line.ScriptFault.{ScriptFault}
 use Rattle.script_line.specs.declared.line.ScriptFault.TheVariants as script_fault
 use Rattle.script_line.specs.declared.line.ScriptLine.{ScriptLine}
-use Rattle.script_line.specs.Grammar.{number_below, number_between, bounds_of, limits_of, url_target, key_of_url, keys_of_urls, keys_of, is_method, protocol_of, place_at, asked_of, get_of, refreshed, meta_of, plain, is_kind, kind_of, body_of, content_of, got_of, lost_of, metafail_of, finish_of, log_of, droplog_of, of_numbers, bare_of, plainly_or, worded, call_of, scripted_of, line_of, NoSpace, IsNumber, IsProtocol, IsPlace, IsAsked, AreKeys, IsKind, IsBody, SaysMeta, SaysGet, SaysGot, SaysLost, SaysMetafail, SaysFinish, SaysLog, SaysDropLog, SaysOfNumbers, SaysBare, SaysCall, SaysScripted, SaysLimits, Says}
-use Rattle.script_line.specs.declared.grammar.TheConstants.{SPACE, BAR}
+use Rattle.script_line.specs.Grammar.{number_below, number_between, bounds_of, limits_of, url_target, key_of_url, each_of, keys_of, is_method, protocol_of, place_at, asked_of, get_of, refreshed, meta_of, plain, is_kind, kind_of, body_of, content_of, got_of, finish_of, one_of, cancel_of, list_of, filter_of, filter_word, of_triggers, of_numbers, bare_of, plainly_or, worded, call_of, scripted_of, line_of, NoSpace, IsNumber, IsProtocol, IsPlace, IsAsked, AreKeys, IsKind, IsBody, SaysMeta, SaysGet, SaysGot, SaysOne, SaysFinish, SaysCancel, SaysList, AreNumbers, SaysOfTriggers, SaysOfNumbers, SaysBare, SaysCall, SaysScripted, SaysLimits, Says}
+use Rattle.script_line.specs.declared.grammar.TheConstants.{SPACE, BAR, COMMA}
+use Rattle.trigger_status.specs.declared.job.Filter.{Filter}
+use Rattle.trigger_status.specs.declared.job.Filter.TheVariants as filter
 
 abbrev pub parts_of : ℕ → List ℕ → List (List ℕ)
 parts_of byte text = slice_split (λ x. x == byte) text
@@ -81,37 +83,37 @@ whole_part byte text is =
     let f = found_none _ (position_or_len (λ x. x == byte) text) (λ place. (take place text, drop (place + 1) text)) is in
     whole (λ x. x == byte) text (ltb-false _ _ f)
 
--- ---- the keys of joined URLs
+-- ---- parts that a byte joins, each read
 
--- the keys so far, and those of the rest
-abbrev pub with_front : List KeyParts → Option (List KeyParts) → Option (List KeyParts)
-with_front keys rest = option_map (λ more. keys ++ more) rest
+-- those so far, and those of the rest
+abbrev pub with_front : {A : Type 0} → List A → Option (List A) → Option (List A)
+with_front front rest = option_map (λ more. front ++ more) rest
 
-front_on : (keys : List KeyParts) (key : KeyParts) (rest : Option (List KeyParts)) → with_front keys (option_map (λ more. key ∷ more) rest) ≡ with_front (keys ++ key ∷ []) rest
-front_on keys key None = refl
-front_on keys key (Some more) = ap Some (sym (append_assoc keys (key ∷ []) more))
+front_on : {A : Type 0} (front : List A) (one : A) (rest : Option (List A)) → with_front front (option_map (λ more. one ∷ more) rest) ≡ with_front (front ++ one ∷ []) rest
+front_on front one None = refl
+front_on front one (Some more) = ap Some (sym (append_assoc front (one ∷ []) more))
 
-module _ (text : List ℕ) (keys : List KeyParts) (all : Option (List KeyParts)) (so_far : with_front keys (keys_of_urls (parts_of BAR text)) ≡ all) where
-  pub keys_fail : (url after : List ℕ) → Some (url, after) ≡ parts_at BAR text → None ≡ key_of_url url → None ≡ all
-  keys_fail url after is none =
-      sym (ap (λ parts. with_front keys (keys_of_urls parts)) (cut_parts BAR text url after is)
-      ∙ ap (λ found. with_front keys (found >>= λ key. option_map (λ more. key ∷ more) (keys_of_urls (parts_of BAR after)))) (sym none)) ∙ so_far
+module _ {A : Type 0} (byte : ℕ) (read : List ℕ → Option A) (text : List ℕ) (front : List A) (all : Option (List A)) (so_far : with_front front (each_of read (parts_of byte text)) ≡ all) where
+  pub part_fails : (part after : List ℕ) → Some (part, after) ≡ parts_at byte text → read part ≡ None → all ≡ None
+  part_fails part after is none =
+      sym so_far ∙ ap (λ parts. with_front front (each_of read parts)) (cut_parts byte text part after is)
+      ∙ ap (λ found. with_front front (found >>= λ one. option_map (λ more. one ∷ more) (each_of read (parts_of byte after)))) none
 
-  pub keys_on : (url after : List ℕ) (key : KeyParts) → Some (url, after) ≡ parts_at BAR text → Some key ≡ key_of_url url → with_front (keys ++ key ∷ []) (keys_of_urls (parts_of BAR after)) ≡ all
-  keys_on url after key is found =
-      sym (ap (λ parts. with_front keys (keys_of_urls parts)) (cut_parts BAR text url after is)
-      ∙ ap (λ one. with_front keys (one >>= λ k. option_map (λ more. k ∷ more) (keys_of_urls (parts_of BAR after)))) (sym found)
-      ∙ front_on keys key (keys_of_urls (parts_of BAR after))) ∙ so_far
+  pub part_read : (part after : List ℕ) (one : A) → Some (part, after) ≡ parts_at byte text → read part ≡ Some one → with_front (front ++ one ∷ []) (each_of read (parts_of byte after)) ≡ all
+  part_read part after one is found =
+      sym (ap (λ parts. with_front front (each_of read parts)) (cut_parts byte text part after is)
+      ∙ ap (λ first. with_front front (first >>= λ k. option_map (λ more. k ∷ more) (each_of read (parts_of byte after)))) found
+      ∙ front_on front one (each_of read (parts_of byte after))) ∙ so_far
 
-  pub keys_fail_last : None ≡ parts_at BAR text → None ≡ key_of_url text → None ≡ all
-  keys_fail_last is none =
-      sym (ap (λ parts. with_front keys (keys_of_urls parts)) (whole_part BAR text is)
-      ∙ ap (λ found. with_front keys (found >>= λ key. option_map (λ more. key ∷ more) (Some []))) (sym none)) ∙ so_far
+  pub last_fails : None ≡ parts_at byte text → read text ≡ None → all ≡ None
+  last_fails is none =
+      sym so_far ∙ ap (λ parts. with_front front (each_of read parts)) (whole_part byte text is)
+      ∙ ap (λ found. with_front front (found >>= λ one. option_map (λ more. one ∷ more) (Some []))) none
 
-  pub keys_done : (key : KeyParts) → None ≡ parts_at BAR text → Some key ≡ key_of_url text → Some (keys ++ key ∷ []) ≡ all
-  keys_done key is found =
-      sym (ap (λ parts. with_front keys (keys_of_urls parts)) (whole_part BAR text is)
-      ∙ ap (λ one. with_front keys (one >>= λ k. option_map (λ more. k ∷ more) (Some []))) (sym found)) ∙ so_far
+  pub last_read : (one : A) → None ≡ parts_at byte text → read text ≡ Some one → all ≡ Some (front ++ one ∷ [])
+  last_read one is found =
+      sym so_far ∙ ap (λ parts. with_front front (each_of read parts)) (whole_part byte text is)
+      ∙ ap (λ first. with_front front (first >>= λ k. option_map (λ more. k ∷ more) (Some []))) found
 
 -- a fault goes on, where there is nothing in the whole wherever there is nothing in a part
 pub fails_on : {A B C D : Type 0} (f : A → B) (g : C → D) {one : Option B} {all : Option D} (wrong : ScriptFault) → Gives f (Err wrong) one → (one ≡ None → all ≡ None) → Gives g (Err wrong) all
@@ -172,9 +174,9 @@ pub found_if : {B : Type 0} (t : Bool) (o : Option B) (b : B) → cond t o None 
 found_if true o b is = (refl, is)
 found_if false o b is = absurd (cc)
 
-one_of : {B : Type 0} (t : Bool) (first other : Option B) (b : B) → cond t first other ≡ Some b → ((t ≡ true) × (first ≡ Some b)) ⊎ (other ≡ Some b)
-one_of true first other b is = inl (refl, is)
-one_of false first other b is = inr is
+one_or : {B : Type 0} (t : Bool) (first other : Option B) (b : B) → cond t first other ≡ Some b → ((t ≡ true) × (first ≡ Some b)) ⊎ (other ≡ Some b)
+one_or true first other b is = inl (refl, is)
+one_or false first other b is = inr is
 
 -- ---- a line says what is read of it
 
@@ -191,6 +193,9 @@ says_number text n is = decimal_some text (number_of text) refl n is.1 is.0
 same_some : {A : Type 0} {x y : A} → Some x ≡ Some y → x ≡ y
 same_some is = cc
 
+named : (word name : List ℕ) (one found : Filter) → bytes_eq word name ≡ true → Some one ≡ Some found → name ≡ filter_word one → word ≡ filter_word found
+named word name one found same is known = (bytes_eq-Decides word name).0 same ∙ known ∙ ap filter_word (same_some is)
+
 none_some : {A : Type 0} {x : A} → None ≡ Some x → ⊥
 none_some is = cc
 
@@ -204,15 +209,15 @@ url_says url target is = target_read url None false target (found_target (target
 says_url : (url : List ℕ) (target : Target) → IsTarget url None false target → url_target url ≡ Some target
 says_url url target is = ap result_ok (target_is_read url None false target is)
 
-keys_say : (urls : List (List ℕ)) (keys : List KeyParts) → keys_of_urls urls ≡ Some keys → AreKeys urls keys
+keys_say : (urls : List (List ℕ)) (keys : List KeyParts) → each_of key_of_url urls ≡ Some keys → AreKeys urls keys
 keys_say [] keys is = subst (AreKeys []) (same_some is) tt
 keys_say (url ∷ urls) keys is =
-    let first = found_first (key_of_url url) (λ key. option_map (λ more. key ∷ more) (keys_of_urls urls)) keys is in
-    let rest = found_map (λ more. first.0 ∷ more) (keys_of_urls urls) keys first.2 in
+    let first = found_first (key_of_url url) (λ key. option_map (λ more. key ∷ more) (each_of key_of_url urls)) keys is in
+    let rest = found_map (λ more. first.0 ∷ more) (each_of key_of_url urls) keys first.2 in
     let target = found_map (λ t. key_of t ignored.None) (url_target url) first.0 first.1 in
     subst (AreKeys (url ∷ urls)) rest.2 ((target.0, url_says url target.0 target.1, sym target.2), keys_say urls rest.0 rest.1)
 
-says_keys : (urls : List (List ℕ)) (keys : List KeyParts) → AreKeys urls keys → keys_of_urls urls ≡ Some keys
+says_keys : (urls : List (List ℕ)) (keys : List KeyParts) → AreKeys urls keys → each_of key_of_url urls ≡ Some keys
 says_keys [] [] is = refl
 says_keys [] (key ∷ keys) is = absurd is
 says_keys (url ∷ urls) [] is = absurd is
@@ -523,41 +528,97 @@ says_got moment text said is =
           ∙ ap Some (sym is.call),
     )
 
-lost_says : (moment : ℕ) (text word behind : List ℕ) (said : Noted) → parts_at SPACE text ≡ Some (word, behind) → bytes_eq word (codes "lost") ≡ true → option_map plain (lost_of moment behind) ≡ Some said → SaysLost moment text said
-lost_says moment text word behind said cut same is =
-    let first = first_is text word behind (codes "lost") cut same in
-    let event = found_map plain (lost_of moment behind) said is in
-    let fetch = found_map (λ fetch. FetchEnd fetch outcome.Failed moment) (number_of behind) event.0 event.1 in
+one_says : (word : List ℕ) (event : ℕ → Event) (text first behind : List ℕ) (said : Noted) → parts_at SPACE text ≡ Some (first, behind) → bytes_eq first word ≡ true → option_map plain (one_of event behind) ≡ Some said → SaysOne word event text said
+one_says word event text first behind said cut same is =
+    let begins = first_is text first behind word cut same in
+    let made = found_map plain (one_of event behind) said is in
+    let number = found_map event (number_of behind) made.0 made.1 in
     record {
-      number = behind;
-      fetch = fetch.0;
-      words = (behind, first.0, first.1, refl);
-      numbered = number_says behind fetch.0 fetch.1;
-      call = said_plainly event.0 (FetchEnd fetch.0 outcome.Failed moment) said event.2 fetch.2;
+      digits = behind;
+      number = number.0;
+      words = (behind, begins.0, begins.1, refl);
+      numbered = number_says behind number.0 number.1;
+      call = said_plainly made.0 (event number.0) said made.2 number.2;
     }
 
-says_lost : (moment : ℕ) (text : List ℕ) (said : Noted) → SaysLost moment text said → (behind : List ℕ) × (text ≡ codes "lost" ++ SPACE ∷ behind) × (option_map plain (lost_of moment behind) ≡ Some said)
-says_lost moment text said is =
+says_one : (word : List ℕ) (event : ℕ → Event) (text : List ℕ) (said : Noted) → SaysOne word event text said → (behind : List ℕ) × (text ≡ word ++ SPACE ∷ behind) × (option_map plain (one_of event behind) ≡ Some said)
+says_one word event text said is =
     let first = is.words in
-    (first.0, first.1, ap (λ t. option_map plain (lost_of moment t)) first.3 ∙ ap (λ n. option_map plain (option_map (λ fetch. FetchEnd fetch outcome.Failed moment) n)) (says_number is.number is.fetch is.numbered) ∙ ap Some (sym is.call))
+    (first.0, first.1, ap (λ t. option_map plain (one_of event t)) first.3 ∙ ap (λ n. option_map plain (option_map event n)) (says_number is.digits is.number is.numbered) ∙ ap Some (sym is.call))
 
-metafail_says : (moment : ℕ) (text word behind : List ℕ) (said : Noted) → parts_at SPACE text ≡ Some (word, behind) → bytes_eq word (codes "metafail") ≡ true → option_map plain (metafail_of moment behind) ≡ Some said → SaysMetafail moment text said
-metafail_says moment text word behind said cut same is =
-    let first = first_is text word behind (codes "metafail") cut same in
-    let event = found_map plain (metafail_of moment behind) said is in
-    let refresh = found_map (λ refresh. RefreshEnd refresh None moment) (number_of behind) event.0 event.1 in
+numbers_read : (texts : List (List ℕ)) (numbers : List ℕ) → each_of number_of texts ≡ Some numbers → AreNumbers texts numbers
+numbers_read [] numbers is = subst (AreNumbers []) (same_some is) tt
+numbers_read (text ∷ texts) numbers is =
+    let first = found_first (number_of text) (λ n. option_map (λ more. n ∷ more) (each_of number_of texts)) numbers is in
+    let rest = found_map (λ more. first.0 ∷ more) (each_of number_of texts) numbers first.2 in
+    subst (AreNumbers (text ∷ texts)) rest.2 (number_says text first.0 first.1, numbers_read texts rest.0 rest.1)
+
+read_numbers : (texts : List (List ℕ)) (numbers : List ℕ) → AreNumbers texts numbers → each_of number_of texts ≡ Some numbers
+read_numbers [] [] is = refl
+read_numbers [] (number ∷ numbers) is = absurd is
+read_numbers (text ∷ texts) [] is = absurd is
+read_numbers (text ∷ texts) (number ∷ numbers) is =
+    found_then (number_of text) _ number _ (says_number text number is.0) (ap (option_map (λ more. number ∷ more)) (read_numbers texts numbers is.1))
+
+cancel_says : (moment : ℕ) (text word behind : List ℕ) (said : Noted) → parts_at SPACE text ≡ Some (word, behind) → bytes_eq word (codes "cancel") ≡ true → option_map plain (cancel_of moment behind) ≡ Some said → SaysCancel moment text said
+cancel_says moment text word behind said cut same is =
+    let first = first_is text word behind (codes "cancel") cut same in
+    let event = found_map plain (cancel_of moment behind) said is in
+    let ids = found_map (λ ids. Cancel ids moment) (each_of number_of (parts_of COMMA behind)) event.0 event.1 in
     record {
-      number = behind;
-      refresh = refresh.0;
+      list = behind;
+      ids = ids.0;
       words = (behind, first.0, first.1, refl);
-      numbered = number_says behind refresh.0 refresh.1;
-      call = said_plainly event.0 (RefreshEnd refresh.0 None moment) said event.2 refresh.2;
+      numbered = numbers_read (parts_of COMMA behind) ids.0 ids.1;
+      call = said_plainly event.0 (Cancel ids.0 moment) said event.2 ids.2;
     }
 
-says_metafail : (moment : ℕ) (text : List ℕ) (said : Noted) → SaysMetafail moment text said → (behind : List ℕ) × (text ≡ codes "metafail" ++ SPACE ∷ behind) × (option_map plain (metafail_of moment behind) ≡ Some said)
-says_metafail moment text said is =
+says_cancel : (moment : ℕ) (text : List ℕ) (said : Noted) → SaysCancel moment text said → (behind : List ℕ) × (text ≡ codes "cancel" ++ SPACE ∷ behind) × (option_map plain (cancel_of moment behind) ≡ Some said)
+says_cancel moment text said is =
     let first = is.words in
-    (first.0, first.1, ap (λ t. option_map plain (metafail_of moment t)) first.3 ∙ ap (λ n. option_map plain (option_map (λ refresh. RefreshEnd refresh None moment) n)) (says_number is.number is.refresh is.numbered) ∙ ap Some (sym is.call))
+    (first.0, first.1, ap (λ t. option_map plain (cancel_of moment t)) first.3 ∙ ap (λ ids. option_map plain (option_map (λ all. Cancel all moment) ids)) (read_numbers (parts_of COMMA is.list) is.ids is.numbered) ∙ ap Some (sym is.call))
+
+filter_is : (word : List ℕ) (found : Filter) → filter_of word ≡ Some found → word ≡ filter_word found
+unfolding filter_of
+filter_is word found is = elim (one_or (bytes_eq word (codes "all")) _ _ found is) [
+  | inl all ↦ named word (codes "all") filter.All found all.0 all.1 refl
+  | inr more ↦ elim (one_or (bytes_eq word (codes "pending")) _ _ found more) [
+    | inl pending ↦ named word (codes "pending") filter.Pending found pending.0 pending.1 refl
+    | inr more ↦ elim (one_or (bytes_eq word (codes "active")) _ _ found more) [
+      | inl active ↦ named word (codes "active") filter.Active found active.0 active.1 refl
+      | inr more ↦ elim (one_or (bytes_eq word (codes "complete")) _ _ found more) [
+        | inl complete ↦ named word (codes "complete") filter.Complete found complete.0 complete.1 refl
+        | inr more ↦
+            let last = found_if (bytes_eq word (codes "failed")) (Some filter.Failed) found more in
+            named word (codes "failed") filter.Failed found last.0 last.1 refl
+      ]
+    ]
+  ]
+]
+
+is_filter : (word : List ℕ) (found : Filter) → word ≡ filter_word found → filter_of word ≡ Some found
+unfolding filter_of
+is_filter word filter.All is = ap filter_of is
+is_filter word filter.Pending is = ap filter_of is
+is_filter word filter.Active is = ap filter_of is
+is_filter word filter.Complete is = ap filter_of is
+is_filter word filter.Failed is = ap filter_of is
+
+list_says : (text word behind : List ℕ) (said : Noted) → parts_at SPACE text ≡ Some (word, behind) → bytes_eq word (codes "list") ≡ true → option_map plain (list_of behind) ≡ Some said → SaysList text said
+list_says text word behind said cut same is =
+    let first = first_is text word behind (codes "list") cut same in
+    let event = found_map plain (list_of behind) said is in
+    let listed = found_map Lists (filter_of behind) event.0 event.1 in
+    record {
+      filter = listed.0;
+      words = (behind, first.0, first.1, filter_is behind listed.0 listed.1);
+      call = said_plainly event.0 (Lists listed.0) said event.2 listed.2;
+    }
+
+says_list : (text : List ℕ) (said : Noted) → SaysList text said → (behind : List ℕ) × (text ≡ codes "list" ++ SPACE ∷ behind) × (option_map plain (list_of behind) ≡ Some said)
+says_list text said is =
+    let first = is.words in
+    (first.0, first.1, ap (λ found. option_map plain (option_map Lists found)) (is_filter first.0 is.filter first.3) ∙ ap Some (sym is.call))
 
 finish_says : (moment : ℕ) (text word behind : List ℕ) (said : Noted) → parts_at SPACE text ≡ Some (word, behind) → bytes_eq word (codes "finish") ≡ true → option_map plain (finish_of moment behind) ≡ Some said → SaysFinish moment text said
 unfolding finish_of
@@ -613,58 +674,43 @@ says_finish moment text said is =
           ∙ ap Some (sym is.call),
     )
 
-log_says : (text word behind : List ℕ) (said : Noted) → parts_at SPACE text ≡ Some (word, behind) → bytes_eq word (codes "log") ≡ true → option_map plain (log_of behind) ≡ Some said → SaysLog text said
-log_says text word behind said cut same is =
-    let first = first_is text word behind (codes "log") cut same in
-    let event = found_map plain (log_of behind) said is in
-    let file = found_map LogFile (number_of behind) event.0 event.1 in
-    record {
-      number = behind;
-      file = file.0;
-      words = (behind, first.0, first.1, refl);
-      numbered = number_says behind file.0 file.1;
-      call = said_plainly event.0 (LogFile file.0) said event.2 file.2;
-    }
-
-says_log : (text : List ℕ) (said : Noted) → SaysLog text said → (behind : List ℕ) × (text ≡ codes "log" ++ SPACE ∷ behind) × (option_map plain (log_of behind) ≡ Some said)
-says_log text said is =
-    let first = is.words in
-    (first.0, first.1, ap (λ t. option_map plain (log_of t)) first.3 ∙ ap (λ n. option_map plain (option_map LogFile n)) (says_number is.number is.file is.numbered) ∙ ap Some (sym is.call))
-
-droplog_says : (text word behind : List ℕ) (said : Noted) → parts_at SPACE text ≡ Some (word, behind) → bytes_eq word (codes "droplog") ≡ true → option_map plain (droplog_of behind) ≡ Some said → SaysDropLog text said
-droplog_says text word behind said cut same is =
-    let first = first_is text word behind (codes "droplog") cut same in
-    let event = found_map plain (droplog_of behind) said is in
-    let file = found_map DropLog (number_of behind) event.0 event.1 in
-    record {
-      number = behind;
-      file = file.0;
-      words = (behind, first.0, first.1, refl);
-      numbered = number_says behind file.0 file.1;
-      call = said_plainly event.0 (DropLog file.0) said event.2 file.2;
-    }
-
-says_droplog : (text : List ℕ) (said : Noted) → SaysDropLog text said → (behind : List ℕ) × (text ≡ codes "droplog" ++ SPACE ∷ behind) × (option_map plain (droplog_of behind) ≡ Some said)
-says_droplog text said is =
-    let first = is.words in
-    (first.0, first.1, ap (λ t. option_map plain (droplog_of t)) first.3 ∙ ap (λ n. option_map plain (option_map DropLog n)) (says_number is.number is.file is.numbered) ∙ ap Some (sym is.call))
+triggers_say : (moment : ℕ) (text word behind : List ℕ) (said : Noted) → parts_at SPACE text ≡ Some (word, behind) → (event : Event) → of_triggers moment word behind ≡ Some event → plain event ≡ said → SaysOfTriggers moment text said
+unfolding of_triggers
+triggers_say moment text word behind said cut event is same =
+    let plainly : (o : Option Event) → o ≡ Some event → option_map plain o ≡ Some said = λ o found. ap (option_map plain) found ∙ ap Some same in
+    elim (one_or (bytes_eq word (codes "advance")) _ _ event is) [
+      | inl advance ↦ inl (one_says (codes "advance") _ text word behind said cut advance.0 (plainly _ advance.1))
+      | inr more ↦ inr (elim (one_or (bytes_eq word (codes "cancel")) _ _ event more) [
+        | inl cancel ↦ inl (cancel_says moment text word behind said cut cancel.0 (plainly _ cancel.1))
+        | inr more ↦ inr (elim (one_or (bytes_eq word (codes "delete")) _ _ event more) [
+          | inl delete ↦ inl (one_says (codes "delete") _ text word behind said cut delete.0 (plainly _ delete.1))
+          | inr more ↦ inr (elim (one_or (bytes_eq word (codes "status")) _ _ event more) [
+            | inl status ↦ inl (one_says (codes "status") _ text word behind said cut status.0 (plainly _ status.1))
+            | inr more ↦
+                let last = found_if (bytes_eq word (codes "list")) (list_of behind) event more in
+                inr (list_says text word behind said cut last.0 (plainly _ last.1))
+          ])
+        ])
+      ])
+    ]
 
 numbers_say : (moment : ℕ) (text word behind : List ℕ) (said : Noted) → parts_at SPACE text ≡ Some (word, behind) → option_map plain (of_numbers moment word behind) ≡ Some said → SaysOfNumbers moment text said
 unfolding of_numbers
 numbers_say moment text word behind said cut is =
     let event = found_map plain (of_numbers moment word behind) said is in
     let plainly : (o : Option Event) → o ≡ Some event.0 → option_map plain o ≡ Some said = λ o found. ap (option_map plain) found ∙ ap Some event.2 in
-    elim (one_of (bytes_eq word (codes "finish")) _ _ event.0 event.1) [
+    elim (one_or (bytes_eq word (codes "finish")) _ _ event.0 event.1) [
       | inl finish ↦ inl (finish_says moment text word behind said cut finish.0 (plainly _ finish.1))
-      | inr no_finish ↦ inr (elim (one_of (bytes_eq word (codes "lost")) _ _ event.0 no_finish) [
-        | inl lost ↦ inl (lost_says moment text word behind said cut lost.0 (plainly _ lost.1))
-        | inr no_lost ↦ inr (elim (one_of (bytes_eq word (codes "metafail")) _ _ event.0 no_lost) [
-          | inl metafail ↦ inl (metafail_says moment text word behind said cut metafail.0 (plainly _ metafail.1))
-          | inr no_metafail ↦ inr (elim (one_of (bytes_eq word (codes "log")) _ _ event.0 no_metafail) [
-            | inl log ↦ inl (log_says text word behind said cut log.0 (plainly _ log.1))
-            | inr no_log ↦
-                let last = found_if (bytes_eq word (codes "droplog")) (droplog_of behind) event.0 no_log in
-                inr (droplog_says text word behind said cut last.0 (plainly _ last.1))
+      | inr more ↦ inr (elim (one_or (bytes_eq word (codes "lost")) _ _ event.0 more) [
+        | inl lost ↦ inl (one_says (codes "lost") _ text word behind said cut lost.0 (plainly _ lost.1))
+        | inr more ↦ inr (elim (one_or (bytes_eq word (codes "metafail")) _ _ event.0 more) [
+          | inl metafail ↦ inl (one_says (codes "metafail") _ text word behind said cut metafail.0 (plainly _ metafail.1))
+          | inr more ↦ inr (elim (one_or (bytes_eq word (codes "log")) _ _ event.0 more) [
+            | inl log ↦ inl (one_says (codes "log") _ text word behind said cut log.0 (plainly _ log.1))
+            | inr more ↦ inr (elim (one_or (bytes_eq word (codes "droplog")) _ _ event.0 more) [
+              | inl droplog ↦ inl (one_says (codes "droplog") _ text word behind said cut droplog.0 (plainly _ droplog.1))
+              | inr more ↦ inr (triggers_say moment text word behind said cut event.0 more event.2)
+            ])
           ])
         ])
       ])
@@ -686,11 +732,11 @@ bare_says moment text event is = elim (cases_Bool (bytes_eq text (codes "refresh
 
 worded_says : (moment : ℕ) (text word behind : List ℕ) (said : Noted) → parts_at SPACE text ≡ Some (word, behind) → worded moment (word, behind) ≡ Some said
     → SaysGet moment text said ⊎ (SaysGot moment text said ⊎ (SaysMeta moment text said ⊎ SaysOfNumbers moment text said))
-worded_says moment text word behind said cut is = elim (one_of (bytes_eq word (codes "get")) _ _ said is) [
+worded_says moment text word behind said cut is = elim (one_or (bytes_eq word (codes "get")) _ _ said is) [
   | inl get ↦ inl (get_says moment text word behind said cut get.0 get.1)
-  | inr no_get ↦ inr (elim (one_of (bytes_eq word (codes "got")) _ _ said no_get) [
+  | inr no_get ↦ inr (elim (one_or (bytes_eq word (codes "got")) _ _ said no_get) [
     | inl got ↦ inl (got_says moment text word behind said cut got.0 got.1)
-    | inr no_got ↦ inr (elim (one_of (bytes_eq word (codes "meta")) _ _ said no_got) [
+    | inr no_got ↦ inr (elim (one_or (bytes_eq word (codes "meta")) _ _ said no_got) [
       | inl meta ↦ inl (meta_says moment text word behind said cut meta.0 meta.1)
       | inr no_meta ↦ inr (numbers_say moment text word behind said cut no_meta)
     ])
@@ -712,7 +758,7 @@ says_word_call moment text word behind said none is same worded_is =
     ap (call_of moment) same ∙ is ∙ found_then (parts_at SPACE (word ++ SPACE ∷ behind)) (worded moment) (word, behind) _ (begins_cut SPACE word behind none) worded_is
 
 says_call : (moment : ℕ) (text : List ℕ) (said : Noted) → SaysCall moment text said → call_of moment text ≡ Some said
-unfolding call_of bare_of of_numbers
+unfolding call_of bare_of of_numbers of_triggers
 says_call moment text said (inl (inl is)) = ap (call_of moment) is.0 ∙ ap Some (sym is.1)
 says_call moment text said (inl (inr (inl is))) = ap (call_of moment) is.0 ∙ ap Some (sym is.1)
 says_call moment text said (inl (inr (inr is))) = ap (call_of moment) is.0 ∙ ap Some (sym is.1)
@@ -720,10 +766,15 @@ says_call moment text said (inr (inl is)) = let m = says_get moment text said is
 says_call moment text said (inr (inr (inl is))) = let m = says_got moment text said is in says_word_call moment text (codes "got") m.0 said refl refl m.1 m.2
 says_call moment text said (inr (inr (inr (inl is)))) = let m = says_meta moment text said is in says_word_call moment text (codes "meta") m.0 said refl refl m.1 m.2
 says_call moment text said (inr (inr (inr (inr (inl is))))) = let m = says_finish moment text said is in says_word_call moment text (codes "finish") m.0 said refl refl m.1 m.2
-says_call moment text said (inr (inr (inr (inr (inr (inl is)))))) = let m = says_lost moment text said is in says_word_call moment text (codes "lost") m.0 said refl refl m.1 m.2
-says_call moment text said (inr (inr (inr (inr (inr (inr (inl is))))))) = let m = says_metafail moment text said is in says_word_call moment text (codes "metafail") m.0 said refl refl m.1 m.2
-says_call moment text said (inr (inr (inr (inr (inr (inr (inr (inl is)))))))) = let m = says_log text said is in says_word_call moment text (codes "log") m.0 said refl refl m.1 m.2
-says_call moment text said (inr (inr (inr (inr (inr (inr (inr (inr is)))))))) = let m = says_droplog text said is in says_word_call moment text (codes "droplog") m.0 said refl refl m.1 m.2
+says_call moment text said (inr (inr (inr (inr (inr (inl is)))))) = let m = says_one (codes "lost") _ text said is in says_word_call moment text (codes "lost") m.0 said refl refl m.1 m.2
+says_call moment text said (inr (inr (inr (inr (inr (inr (inl is))))))) = let m = says_one (codes "metafail") _ text said is in says_word_call moment text (codes "metafail") m.0 said refl refl m.1 m.2
+says_call moment text said (inr (inr (inr (inr (inr (inr (inr (inl is)))))))) = let m = says_one (codes "log") _ text said is in says_word_call moment text (codes "log") m.0 said refl refl m.1 m.2
+says_call moment text said (inr (inr (inr (inr (inr (inr (inr (inr (inl is))))))))) = let m = says_one (codes "droplog") _ text said is in says_word_call moment text (codes "droplog") m.0 said refl refl m.1 m.2
+says_call moment text said (inr (inr (inr (inr (inr (inr (inr (inr (inr (inl is)))))))))) = let m = says_one (codes "advance") _ text said is in says_word_call moment text (codes "advance") m.0 said refl refl m.1 m.2
+says_call moment text said (inr (inr (inr (inr (inr (inr (inr (inr (inr (inr (inl is))))))))))) = let m = says_cancel moment text said is in says_word_call moment text (codes "cancel") m.0 said refl refl m.1 m.2
+says_call moment text said (inr (inr (inr (inr (inr (inr (inr (inr (inr (inr (inr (inl is)))))))))))) = let m = says_one (codes "delete") _ text said is in says_word_call moment text (codes "delete") m.0 said refl refl m.1 m.2
+says_call moment text said (inr (inr (inr (inr (inr (inr (inr (inr (inr (inr (inr (inr (inl is))))))))))))) = let m = says_one (codes "status") _ text said is in says_word_call moment text (codes "status") m.0 said refl refl m.1 m.2
+says_call moment text said (inr (inr (inr (inr (inr (inr (inr (inr (inr (inr (inr (inr (inr is))))))))))))) = let m = says_list text said is in says_word_call moment text (codes "list") m.0 said refl refl m.1 m.2
 
 -- ---- the limits
 

@@ -25,11 +25,13 @@ use Rattle.upstream_gate.specs.Got.{GotParts, is_got_status, IsGot}
 use Rattle.upstream_gate.specs.declared.got.TheConstants.{BODY_MAX}
 use Rattle.upstream_gate.specs.declared.outcome.Outcome.TheVariants as outcome
 use Rattle.hex.specs.Hex.{decode_of}
+use Rattle.trigger_status.specs.declared.job.Filter.{Filter}
+use Rattle.trigger_status.specs.declared.job.Filter.TheVariants as filter
 use Rattle.cdni_base.specs.Limits.{Bounds, AreInRange}
 use Rattle.cdni_base.specs.declared.type_name.TheConstants.{TYPE_NAME_MAX}
-use Rattle.history.specs.Event.{Event, RefreshBegin, RefreshEnd, Admit, FetchEnd, Finish, Cut, LogFile, ListLogs, DropLog}
+use Rattle.history.specs.Event.{Event, RefreshBegin, RefreshEnd, Admit, FetchEnd, Finish, Cut, LogFile, ListLogs, DropLog, Advance, Cancel, Delete, ReadStatus, Lists}
 use Rattle.script_line.specs.Line.{Noted, Said, Scripted, Sets, Calls, on_pass}
-use Rattle.script_line.specs.declared.grammar.TheConstants.{SPACE, BAR, LONGEST_METHOD}
+use Rattle.script_line.specs.declared.grammar.TheConstants.{SPACE, BAR, COMMA, LONGEST_METHOD}
 
 -- a decimal number below the bound, without leading zeros
 unfoldable pub number_below : ℕ → List ℕ → Option ℕ
@@ -39,6 +41,15 @@ number_below bound text = number_of text >>= λ n. if nat_lt n bound then Some n
 unfoldable pub number_between : ℕ → ℕ → List ℕ → Option ℕ
 number_between least most text =
     number_of text >>= λ n. if nat_le least n && nat_le n most then Some n else None
+
+-- each of these, where all of them read
+abbrev pub each_of : {A : Type 0} → (List ℕ → Option A) → List (List ℕ) → Option (List A)
+each_of read [] = Some []
+each_of read (part ∷ parts) = read part >>= λ first. option_map (λ others. first ∷ others) (each_of read parts)
+
+-- what this byte joins, each part read
+abbrev pub joined : {A : Type 0} → ℕ → (List ℕ → Option A) → List ℕ → Option (List A)
+joined byte read text = each_of read (slice_split (λ x. x == byte) text)
 
 -- ---- the limits
 
@@ -72,13 +83,9 @@ url_target text = result_ok (target_of text None false)
 abbrev pub key_of_url : List ℕ → Option KeyParts
 key_of_url url = option_map (λ target. key_of target ignored.None) (url_target url)
 
-abbrev pub keys_of_urls : List (List ℕ) → Option (List KeyParts)
-keys_of_urls [] = Some []
-keys_of_urls (url ∷ urls) = key_of_url url >>= λ key. option_map (λ keys. key ∷ keys) (keys_of_urls urls)
-
 -- the keys of URLs joined by bars
 abbrev pub keys_of : List ℕ → Option (List KeyParts)
-keys_of text = keys_of_urls (slice_split (λ byte. byte == BAR) text)
+keys_of text = joined BAR key_of_url text
 
 -- ---- the words of `get`
 
@@ -170,13 +177,9 @@ got_of moment text = parts_at SPACE text >>= λ fetch. number_of fetch.0 >>= λ 
     >>= λ status. parts_at SPACE status.1 >>= λ kind.
     option_map (λ got. FetchEnd number (outcome.Got got) moment) (content_of status.0 kind.0 kind.1)
 
--- F
-abbrev pub lost_of : ℕ → List ℕ → Option Event
-lost_of moment text = option_map (λ fetch. FetchEnd fetch outcome.Failed moment) (number_of text)
-
--- R
-abbrev pub metafail_of : ℕ → List ℕ → Option Event
-metafail_of moment text = option_map (λ refresh. RefreshEnd refresh None moment) (number_of text)
+-- N: the number of what the call speaks of
+abbrev pub one_of : (ℕ → Event) → List ℕ → Option Event
+one_of event text = option_map event (number_of text)
 
 -- D STATUS TOTAL ENTITY
 unfoldable pub finish_of : ℕ → List ℕ → Option Event
@@ -184,21 +187,38 @@ finish_of moment text = parts_at SPACE text >>= λ delivery. number_of delivery.
     >>= λ status. number_between 100 999 status.0 >>= λ code. parts_at SPACE status.1 >>= λ total. number_of total.0
     >>= λ sent. option_map (λ entity. Finish number code sent entity moment) (number_of total.1)
 
--- N
-abbrev pub log_of : List ℕ → Option Event
-log_of text = option_map LogFile (number_of text)
+-- T,T
+abbrev pub cancel_of : ℕ → List ℕ → Option Event
+cancel_of moment text = option_map (λ ids. Cancel ids moment) (joined COMMA number_of text)
 
--- N
-abbrev pub droplog_of : List ℕ → Option Event
-droplog_of text = option_map DropLog (number_of text)
+-- which triggers are listed
+unfoldable pub filter_of : List ℕ → Option Filter
+filter_of word = if bytes_eq word (codes "all") then Some filter.All
+    else (if bytes_eq word (codes "pending") then Some filter.Pending
+    else (if bytes_eq word (codes "active") then Some filter.Active
+    else (if bytes_eq word (codes "complete") then Some filter.Complete
+    else (if bytes_eq word (codes "failed") then Some filter.Failed else None))))
 
--- a word that numbers follow, and what stands behind it
+-- FILTER
+abbrev pub list_of : List ℕ → Option Event
+list_of text = option_map Lists (filter_of text)
+
+-- a word that speaks of triggers, and what stands behind it
+unfoldable pub of_triggers : ℕ → List ℕ → List ℕ → Option Event
+of_triggers moment word behind = if bytes_eq word (codes "advance") then one_of (λ id. Advance id moment) behind
+    else (if bytes_eq word (codes "cancel") then cancel_of moment behind
+    else (if bytes_eq word (codes "delete") then one_of Delete behind
+    else (if bytes_eq word (codes "status") then one_of ReadStatus behind
+    else (if bytes_eq word (codes "list") then list_of behind else None))))
+
+-- a word of neither `get`, `got` nor `meta`, and what stands behind it
 unfoldable pub of_numbers : ℕ → List ℕ → List ℕ → Option Event
 of_numbers moment word behind = if bytes_eq word (codes "finish") then finish_of moment behind
-    else (if bytes_eq word (codes "lost") then lost_of moment behind
-    else (if bytes_eq word (codes "metafail") then metafail_of moment behind
-    else (if bytes_eq word (codes "log") then log_of behind
-    else (if bytes_eq word (codes "droplog") then droplog_of behind else None))))
+    else (if bytes_eq word (codes "lost") then one_of (λ fetch. FetchEnd fetch outcome.Failed moment) behind
+    else (if bytes_eq word (codes "metafail") then one_of (λ refresh. RefreshEnd refresh None moment) behind
+    else (if bytes_eq word (codes "log") then one_of LogFile behind
+    else (if bytes_eq word (codes "droplog") then one_of DropLog behind
+    else of_triggers moment word behind))))
 
 -- a call of one word
 unfoldable pub bare_of : ℕ → List ℕ → Option Event
@@ -341,22 +361,6 @@ pub record SaysGot (moment : ℕ) (text : List ℕ) (said : Noted) : Type 0 wher
   pub given : IsGot got
   pub call : said ≡ plain (FetchEnd fetch (outcome.Got got) moment)
 
--- lost F
-pub record SaysLost (moment : ℕ) (text : List ℕ) (said : Noted) : Type 0 where
-  pub number : List ℕ
-  pub fetch : ℕ
-  pub words : IsWords (codes "lost" ∷ []) number text
-  pub numbered : IsNumber number fetch
-  pub call : said ≡ plain (FetchEnd fetch outcome.Failed moment)
-
--- metafail R
-pub record SaysMetafail (moment : ℕ) (text : List ℕ) (said : Noted) : Type 0 where
-  pub number : List ℕ
-  pub refresh : ℕ
-  pub words : IsWords (codes "metafail" ∷ []) number text
-  pub numbered : IsNumber number refresh
-  pub call : said ≡ plain (RefreshEnd refresh None moment)
-
 -- finish D STATUS TOTAL ENTITY
 pub record SaysFinish (moment : ℕ) (text : List ℕ) (said : Noted) : Type 0 where
   pub number : List ℕ
@@ -375,28 +379,82 @@ pub record SaysFinish (moment : ℕ) (text : List ℕ) (said : Noted) : Type 0 w
   pub part : IsNumber entity content
   pub call : said ≡ plain (Finish delivery code sent content moment)
 
+-- a word and the number of what the call speaks of
+pub record SaysOne (word : List ℕ) (event : ℕ → Event) (text : List ℕ) (said : Noted) : Type 0 where
+  pub digits : List ℕ
+  pub number : ℕ
+  pub words : IsWords (word ∷ []) digits text
+  pub numbered : IsNumber digits number
+  pub call : said ≡ plain (event number)
+
+-- lost F
+abbrev pub SaysLost : ℕ → List ℕ → Noted → Type 0
+SaysLost moment = SaysOne (codes "lost") (λ fetch. FetchEnd fetch outcome.Failed moment)
+
+-- metafail R
+abbrev pub SaysMetafail : ℕ → List ℕ → Noted → Type 0
+SaysMetafail moment = SaysOne (codes "metafail") (λ refresh. RefreshEnd refresh None moment)
+
 -- log N
-pub record SaysLog (text : List ℕ) (said : Noted) : Type 0 where
-  pub number : List ℕ
-  pub file : ℕ
-  pub words : IsWords (codes "log" ∷ []) number text
-  pub numbered : IsNumber number file
-  pub call : said ≡ plain (LogFile file)
+abbrev pub SaysLog : List ℕ → Noted → Type 0
+SaysLog = SaysOne (codes "log") LogFile
 
 -- droplog N
-pub record SaysDropLog (text : List ℕ) (said : Noted) : Type 0 where
-  pub number : List ℕ
-  pub file : ℕ
-  pub words : IsWords (codes "droplog" ∷ []) number text
-  pub numbered : IsNumber number file
-  pub call : said ≡ plain (DropLog file)
+abbrev pub SaysDropLog : List ℕ → Noted → Type 0
+SaysDropLog = SaysOne (codes "droplog") DropLog
 
--- one of the five calls of numbers
+-- advance T
+abbrev pub SaysAdvance : ℕ → List ℕ → Noted → Type 0
+SaysAdvance moment = SaysOne (codes "advance") (λ id. Advance id moment)
+
+-- delete T
+abbrev pub SaysDelete : List ℕ → Noted → Type 0
+SaysDelete = SaysOne (codes "delete") Delete
+
+-- status T
+abbrev pub SaysStatus : List ℕ → Noted → Type 0
+SaysStatus = SaysOne (codes "status") ReadStatus
+
+-- each of these is the decimal text of the number at the same place
+abbrev pub AreNumbers : List (List ℕ) → List ℕ → Type 0
+AreNumbers [] [] = Unit {0}
+AreNumbers [] (number ∷ numbers) = ⊥
+AreNumbers (text ∷ texts) [] = ⊥
+AreNumbers (text ∷ texts) (number ∷ numbers) = IsNumber text number × AreNumbers texts numbers
+
+-- cancel T,T
+pub record SaysCancel (moment : ℕ) (text : List ℕ) (said : Noted) : Type 0 where
+  pub list : List ℕ
+  pub ids : List ℕ
+  pub words : IsWords (codes "cancel" ∷ []) list text
+  pub numbered : AreNumbers (slice_split (λ byte. byte == COMMA) list) ids
+  pub call : said ≡ plain (Cancel ids moment)
+
+-- the word by which a script names a filter
+abbrev pub filter_word : Filter → List ℕ
+filter_word filter.All = codes "all"
+filter_word filter.Pending = codes "pending"
+filter_word filter.Active = codes "active"
+filter_word filter.Complete = codes "complete"
+filter_word filter.Failed = codes "failed"
+
+-- list FILTER
+pub record SaysList (text : List ℕ) (said : Noted) : Type 0 where
+  pub filter : Filter
+  pub words : IsWords (codes "list" ∷ []) (filter_word filter) text
+  pub call : said ≡ plain (Lists filter)
+
+-- one of the five calls of triggers
+abbrev pub SaysOfTriggers : ℕ → List ℕ → Noted → Type 0
+SaysOfTriggers moment text said = SaysAdvance moment text said ⊎ (SaysCancel moment text said
+    ⊎ (SaysDelete text said ⊎ (SaysStatus text said ⊎ SaysList text said)))
+
+-- one of the calls of numbers and of triggers
 abbrev pub SaysOfNumbers : ℕ → List ℕ → Noted → Type 0
 SaysOfNumbers moment text said = SaysFinish moment text said ⊎ (SaysLost moment text said
-    ⊎ (SaysMetafail moment text said ⊎ (SaysLog text said ⊎ SaysDropLog text said)))
+    ⊎ (SaysMetafail moment text said ⊎ (SaysLog text said ⊎ (SaysDropLog text said ⊎ SaysOfTriggers moment text said))))
 
--- one of the eleven calls
+-- one of the calls
 abbrev pub SaysCall : ℕ → List ℕ → Noted → Type 0
 SaysCall moment text said = SaysBare moment text said ⊎ (SaysGet moment text said ⊎ (SaysGot moment text said
     ⊎ (SaysMeta moment text said ⊎ SaysOfNumbers moment text said)))

@@ -8,7 +8,7 @@ ghost use Rattle.listing.specs.Word.{parts_at};
 ghost use Rattle.history.specs.Event.{event_of};
 ghost use Rattle.script_line.specs.Line.{said_of, on_pass, Gives, Reads, Said, Sets, Calls, TellsNoMemory};
 ghost use Rattle.cdni_base.specs.declared.type_name.TheConstants.{TYPE_NAME_MAX};
-ghost use Rattle.script_line.specs.Grammar.{number_below, number_between, bounds_of, limits_of, bare_of, of_numbers, finish_of, got_of, content_of, kind_of, is_kind, is_graphic_byte, body_of, url_target, key_of_url, keys_of, is_token_byte, is_method, protocol_of, place_at, asked_of, get_of, refreshed, meta_of, plain, call_of, scripted_of, line_of, Says};
+ghost use Rattle.script_line.specs.Grammar.{number_below, number_between, bounds_of, limits_of, bare_of, of_numbers, of_triggers, joined, filter_of, finish_of, got_of, content_of, kind_of, is_kind, is_graphic_byte, body_of, url_target, key_of_url, keys_of, is_token_byte, is_method, protocol_of, place_at, asked_of, get_of, refreshed, meta_of, plain, call_of, scripted_of, line_of, Says};
 
 use crate::line::{ScriptFault, ScriptLine};
 use cdni_base::{
@@ -21,6 +21,8 @@ use listing::{Listing, cut_at, read_decimal};
 use location_acl::{Ip, Place, read_country, read_network};
 use metadata_objects::{HostIndex, KeyList, MetaFault, Tree};
 use std::alloc::{AllocError, Global};
+use trigger_command::IdList;
+use trigger_status::Filter;
 use upstream_gate::{Got, Outcome};
 
 /// The byte between the words of a line.
@@ -28,6 +30,9 @@ pub const SPACE: u8 = b' ';
 
 /// The byte between the URLs of a `meta` line.
 pub const BAR: u8 = b'|';
+
+/// The byte between the numbers of a `cancel` line.
+pub const COMMA: u8 = b',';
 
 /// A method of more bytes is none.
 pub const LONGEST_METHOD: usize = 127;
@@ -169,7 +174,7 @@ fn read_call(
     if word == b"meta".as_slice() {
         return read_meta(alloc, pass, moment, rest);
     }
-    Ok(line_of_call(pass, read_numbered(moment, word, rest)?))
+    Ok(line_of_call(pass, read_numbered(alloc, moment, word, rest)?))
 }
 
 // a line on which nothing is noted of the call
@@ -202,9 +207,14 @@ fn read_bare(moment: Moment, text: &[u8]) -> Option<Call>
     }
 }
 
-// a call that takes no memory to read: its word, and what stands behind it
+// a call of a word that is none of `get`, `got` and `meta`, and what stands behind it
 #[tactic(auto, unfolding(crate::specs::Grammar::of_numbers))]
-fn read_numbered(moment: Moment, word: &[u8], rest: &[u8]) -> Result<Call, ScriptFault>
+fn read_numbered(
+    alloc: Global,
+    moment: Moment,
+    word: &[u8],
+    rest: &[u8],
+) -> Result<Call, ScriptFault>
     ensures { Gives event_of result (of_numbers moment word.now rest.now) }
 {
     if word == b"finish".as_slice() {
@@ -234,7 +244,87 @@ fn read_numbered(moment: Moment, word: &[u8], rest: &[u8]) -> Result<Call, Scrip
             number: read_number(rest)?,
         });
     }
+    read_of_triggers(alloc, moment, word, rest)
+}
+
+// a call of a word that speaks of triggers, and what stands behind it
+#[tactic(auto, unfolding(crate::specs::Grammar::of_triggers))]
+fn read_of_triggers(
+    alloc: Global,
+    moment: Moment,
+    word: &[u8],
+    rest: &[u8],
+) -> Result<Call, ScriptFault>
+    ensures { Gives event_of result (of_triggers moment word.now rest.now) }
+{
+    if word == b"advance".as_slice() {
+        return Ok(Call::Advance {
+            id: read_number(rest)?,
+            moment,
+        });
+    }
+    if word == b"cancel".as_slice() {
+        return Ok(Call::Cancel {
+            ids: read_ids(alloc, rest)?,
+            moment,
+        });
+    }
+    if word == b"delete".as_slice() {
+        return Ok(Call::Delete {
+            id: read_number(rest)?,
+        });
+    }
+    if word == b"status".as_slice() {
+        return Ok(Call::ReadStatus {
+            id: read_number(rest)?,
+        });
+    }
+    if word == b"list".as_slice() {
+        return Ok(Call::List {
+            filter: read_filter(rest)?,
+        });
+    }
     Err(ScriptFault::NotALine)
+}
+
+// the numbers that commas join
+fn read_ids(alloc: Global, text: &[u8]) -> Result<IdList, ScriptFault>
+    ensures { Gives (λ ids. ids) result (joined COMMA number_of text.now) }
+{
+    let mut ids = Listing::new(alloc);
+    let mut rest = text;
+    'ids: while let Some((number, after)) = cut_at(COMMA, rest) {
+        let id = read_number(number)?;
+        ids.push(id)?;
+        rest = after;
+    }
+    let id = read_number(rest)?;
+    ids.push(id)?;
+    Ok(ids)
+}
+
+// which triggers are listed
+#[tactic(auto, unfolding(crate::specs::Grammar::filter_of))]
+fn read_filter(word: &[u8]) -> Result<Filter, ScriptFault>
+    ensures { Gives (λ filter. filter) result (filter_of word.now) }
+{
+    if word == b"all".as_slice() {
+        return Ok(Filter::All);
+    }
+    if word == b"pending".as_slice() {
+        return Ok(Filter::Pending);
+    }
+    if word == b"active".as_slice() {
+        return Ok(Filter::Active);
+    }
+    if word == b"complete".as_slice() {
+        return Ok(Filter::Complete);
+    }
+    if word == b"failed".as_slice() {
+        Ok(Filter::Failed)
+    } else {
+        Err(ScriptFault::NotALine)
+    }
 }
 
 // R URLS JSON

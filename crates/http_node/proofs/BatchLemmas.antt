@@ -6,9 +6,9 @@ use Rattle.std.proofs.lemmas.List.{length-take}
 use Rattle.edge_base.specs.declared.status.Status.TheVariants as status
 use Rattle.http_node.specs.Batch.{Stops, MeetsNone, status_of}
 use Rattle.replay_script.specs.Script.{answers_read}
-use Rattle.http_node.specs.Replay.{Reads}
-use Rattle.http_node.specs.declared.replay.ReplayEnd.{ReplayEnd}
-use Rattle.http_node.specs.declared.replay.ReplayEnd.TheVariants as replay_end
+use Rattle.replay_script.specs.Replay.{Reads}
+use Rattle.replay_script.specs.declared.script.ReplayEnd.{ReplayEnd}
+use Rattle.replay_script.specs.declared.script.ReplayEnd.TheVariants as replay_end
 
 front_of : (xs rest : List ℕ) → take (length (xs ++ rest) - length rest) (xs ++ rest) ≡ xs
 front_of xs rest =

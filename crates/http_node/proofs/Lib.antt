@@ -1,3 +1,1 @@
-mod AheadLemmas
 mod BatchLemmas
-mod ReplayLemmas

@@ -7,9 +7,9 @@ use Rattle.edge_base.specs.declared.status.Status.{Status}
 use Rattle.edge_base.specs.declared.status.Status.TheVariants as status
 use Rattle.http_node.specs.Note.{note_of}
 use Rattle.replay_script.specs.Script.{answers, answers_read}
-use Rattle.http_node.specs.Replay.{IsTold, AppendsFront, AppendsPart}
-use Rattle.http_node.specs.declared.replay.ReplayEnd.{ReplayEnd}
-use Rattle.http_node.specs.declared.replay.ReplayEnd.TheVariants as replay_end
+use Rattle.replay_script.specs.Replay.{IsTold, AppendsFront, AppendsPart}
+use Rattle.replay_script.specs.declared.script.ReplayEnd.{ReplayEnd}
+use Rattle.replay_script.specs.declared.script.ReplayEnd.TheVariants as replay_end
 
 -- the one command: the word `replay`
 abbrev pub is_replay : List (String Global) → Bool

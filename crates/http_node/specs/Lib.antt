@@ -1,5 +1,2 @@
-pub mod Ahead
 pub mod Batch
-pub mod Lines
 pub mod Note
-pub mod Replay

@@ -5,8 +5,8 @@ use Rattle.std.specs.declared.option.Option.{Option}
 use Rattle.edge_base.specs.Causes.{Rose}
 use Rattle.edge_base.specs.declared.status.Status.{Status}
 use Rattle.edge_base.specs.declared.status.Status.TheVariants as status
-use Rattle.http_node.specs.declared.replay.ReplayEnd.{ReplayEnd}
-use Rattle.http_node.specs.declared.replay.ReplayEnd.TheVariants as replay_end
+use Rattle.replay_script.specs.declared.script.ReplayEnd.{ReplayEnd}
+use Rattle.replay_script.specs.declared.script.ReplayEnd.TheVariants as replay_end
 
 -- this line, counted from 1, which begins at this byte, counted from 0, is no script line
 abbrev pub bad_line_text : ℕ → ℕ → List ℕ

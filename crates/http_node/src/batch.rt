@@ -8,9 +8,9 @@ ghost use Rattle.http_node.specs.Batch.{is_replay, status_of, Replays, ReadsScri
 ghost use Rattle.http_node.specs.Note.{note_of, IsNoted};
 
 use crate::note::{NOTE_ROOM, note_status, put_end_note, write_note};
-use crate::replay::{ReplayEnd, replay};
 use cdni_base::Scratch;
 use edge_base::{Sink, Source, Status};
+use replay_script::{ReplayEnd, replay};
 use std::alloc::Global;
 
 /// Runs the command that `words`, those after the program's name, are: `replay` reads a script from `input`

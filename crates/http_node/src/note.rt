@@ -4,9 +4,9 @@ ghost use Rattle.std.specs.Prelude.{◌≡◌, ◌+◌, ◌≤◌, ◌++◌, [],
 ghost use Rattle.cdni_base.specs.Scratch.{Room};
 ghost use Rattle.http_node.specs.Note.{bad_line_text, end_note, note_of, IsNoted};
 
-use crate::replay::ReplayEnd;
 use cdni_base::Scratch;
 use edge_base::{Sink, Status, write_counted};
+use replay_script::ReplayEnd;
 
 /// Room for the longest note of the end of a replay, in bytes.
 pub(crate) const NOTE_ROOM: usize = 96;

@@ -1,2 +1,3 @@
-mod GrammarLemmas
-pub mod ScriptLemmas
+mod AheadLemmas
+pub mod ReplayLemmas
+mod ScriptLemmas

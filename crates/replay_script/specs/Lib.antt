@@ -1,5 +1,4 @@
-pub mod Answer
-pub mod Call
-pub mod Grammar
+pub mod Ahead
 pub mod Lines
+pub mod Replay
 pub mod Script

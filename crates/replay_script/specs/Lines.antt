@@ -1,7 +1,8 @@
 -- The lines of a script.
 use Rattle.std.specs.Prelude.{ℕ, Bool, true, false, not, List, [], ◌∷◌, length, filter, ◌==◌, ◌||◌, nat_le, IsTrue, if◌then◌else◌}
 use Rattle.std.specs.List.{list_all}
-use Rattle.replay_script.specs.declared.step.TheConstants.{LINE_FEED, LINE_LIMIT}
+use Rattle.script_line.specs.declared.answer.TheConstants.{LINE_FEED}
+use Rattle.replay_script.specs.declared.step.TheConstants.{LINE_LIMIT}
 
 -- a line without its line feed, and whether it has one
 pub record Line : Type 0 where
@@ -30,3 +31,8 @@ whole_lines bytes = filter is_whole (lines_of bytes)
 -- no byte is a line feed
 abbrev pub NoFeed : List ℕ → Type 0
 NoFeed bytes = IsTrue (list_all (λ byte. not (byte == LINE_FEED)) bytes)
+
+-- the line that was read last, and what was read behind it
+pub record Buffered : Type 0 where
+  pub line : List ℕ
+  pub ahead : List ℕ

@@ -3,13 +3,13 @@ use Rattle.std.specs.Prelude.{◌≡◌, ℕ, ◌+◌, Bool, true, IsTrue, List,
 use Rattle.std.specs.Option.{option_and_then, option_map_or}
 use Rattle.std.specs.declared.option.Option.{Option}
 use Rattle.cdni_base.specs.Limits.{Bounds, default_limits}
-use Rattle.replay_script.specs.Answer.{answer_line}
+use Rattle.script_line.specs.Answer.{answer_line}
 use Rattle.history.specs.Event.{History}
 use Rattle.history.specs.History.{reply_to}
 use Rattle.history.specs.World.{Made}
-use Rattle.replay_script.specs.Call.{Said, Scripted, Sets, Calls, entry_of}
+use Rattle.script_line.specs.Line.{Said, Scripted, Sets, Calls, entry_of}
 use Rattle.node_core.specs.Node.{NodeView, Stands}
-use Rattle.replay_script.specs.Grammar.{line_of}
+use Rattle.script_line.specs.Grammar.{line_of}
 use Rattle.replay_script.specs.Lines.{Line, lines_of, whole_lines}
 use Rattle.replay_script.specs.declared.step.TheConstants.{LINE_LIMIT}
 use Rattle.replay_script.specs.declared.step.Stepped.{Stepped}

@@ -1,11 +1,10 @@
-//! The lines of a script, and the answer of a node to each.
+//! The answers of a node to a script, line by line.
 #![tactic(auto)]
 
-mod answer;
-mod call;
-mod grammar;
-pub mod laws;
+mod ahead;
+mod lines;
+mod script;
 mod step;
 
-pub use call::{NotedCall, ScriptLine};
-pub use step::{LINE_FEED, LINE_LIMIT, SCRIPT_LIMIT, Stepped, answer_one, scripted_node};
+pub use script::{ReplayEnd, replay};
+pub use step::{LINE_LIMIT, SCRIPT_LIMIT, Stepped, answer_one, scripted_node};

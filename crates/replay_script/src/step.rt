@@ -1,19 +1,17 @@
 //! One line of a script.
 
-ghost use Rattle.std.specs.Prelude.{◌≡◌, ◌+◌, [], IfOk};
-ghost use Rattle.replay_script.specs.Call.{noted_of};
+ghost use Rattle.std.specs.Prelude.{◌≡◌, ◌+◌, false, [], IfOk, option_map};
+ghost use Rattle.history.specs.Event.{event_of};
+ghost use Rattle.node_core.specs.Call.{is_command};
 ghost use Rattle.node_core.specs.Node.{Stands};
 ghost use Rattle.replay_script.specs.Script.{fits, made_with, Answers, SetsLimits, StepsTo};
 
-use crate::answer::put_answer;
-use crate::call::{NotedCall, ScriptLine};
-use crate::grammar::read_line;
 use cdni_base::{Limits, Text};
+use history::Call;
+use metadata_objects::MetaFault;
 use node_core::Node;
+use script_line::{ScriptFault, ScriptLine, put_reply_line, read_line};
 use std::alloc::{AllocError, Global};
-
-/// The byte that ends a line.
-pub const LINE_FEED: u8 = b'\n';
 
 /// A line of more bytes, its line feed counted, is no script line.
 pub const LINE_LIMIT: usize = 40_000_000;
@@ -52,14 +50,16 @@ pub fn answer_one(
         return Stepped::NotALine;
     }
     let line = match read_line(alloc, line) {
-        Ok(Some(line)) => line,
-        Ok(None) => return Stepped::NotALine,
-        Err(_) => return Stepped::Memory,
+        Ok(line) => line,
+        Err(ScriptFault::NotALine) => return Stepped::NotALine,
+        Err(ScriptFault::Memory) => return Stepped::Memory,
     };
     answer.clear();
     match line {
-        ScriptLine::Limits { limits } => set_limits(alloc, node, first, limits),
-        ScriptLine::Call { pass, noted } => answer_call(alloc, node, pass, noted, answer),
+        ScriptLine::Limits(limits) => set_limits(alloc, node, first, limits),
+        ScriptLine::Call { pass, call, note } => {
+            answer_call(alloc, node, pass, call, note.as_ref(), answer)
+        }
     }
 }
 
@@ -90,20 +90,28 @@ fn set_limits(alloc: Global, node: &mut Node, first: bool, limits: Limits) -> St
     }
 }
 
-// takes the call in, and adds its answer
+// takes the call in, of which this was noted, and adds its answer
 fn answer_call(
     alloc: Global,
     node: &mut Node,
     pass: u32,
-    noted: NotedCall,
+    call: Call,
+    note: Option<&MetaFault>,
     answer: &mut Vec<u8>,
 ) -> Stepped
-    ensures { Answers node.old node.new (pass, noted_of noted) answer.old.items answer.new.items result }
+    requires { is_command (event_of call) ≡ false }
+    ensures { Answers node.old node.new (
+      pass,
+      record {
+        event = event_of call;
+        note = option_map (λ fault. fault.now) note.entry;
+      },
+    ) answer.old.items answer.new.items result }
 {
-    let Ok(reply) = node.call(alloc, pass, noted.call) else {
+    let Ok(reply) = node.call(alloc, pass, call) else {
         return Stepped::Memory;
     };
-    match put_answer(alloc, answer, &reply, &noted.note) {
+    match put_reply_line(alloc, answer, &reply, note) {
         Ok(()) => Stepped::Answered,
         Err(_) => Stepped::Memory,
     }

@@ -1,5 +1,5 @@
 use Rattle.http_node.proofs.BatchLemmas.{script_cause}
-use Rattle.http_node.proofs.ReplayLemmas.{replay_unstarted}
+use Rattle.replay_script.proofs.ReplayLemmas.{replay_unstarted}
 use Rattle.http_node.proofs.batch.batch_main.Goals as goal
 
 pub returns-in_default-clause-served : goal.returns-in_default-clause-served

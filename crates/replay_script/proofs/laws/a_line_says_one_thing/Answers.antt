@@ -1,5 +1,0 @@
-use Rattle.replay_script.proofs.GrammarLemmas.{one_saying}
-use Rattle.replay_script.proofs.laws.a_line_says_one_thing.Goals as goal
-
-pub returns : goal.returns
-returns c = one_saying

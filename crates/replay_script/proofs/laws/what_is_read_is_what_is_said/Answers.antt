@@ -1,5 +1,0 @@
-use Rattle.replay_script.proofs.GrammarLemmas.{line_says, says_line}
-use Rattle.replay_script.proofs.laws.what_is_read_is_what_is_said.Goals as goal
-
-pub returns : goal.returns
-returns c = λ line said. (line_says line said, says_line line said)

@@ -1,0 +1,4 @@
+pub mod Answer
+pub mod Grammar
+pub mod Line
+pub mod Own

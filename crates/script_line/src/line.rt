@@ -1,0 +1,39 @@
+//! What the lines of a script say.
+
+use cdni_base::Limits;
+use history::Call;
+use metadata_objects::MetaFault;
+use std::alloc::AllocError;
+
+/// A line of a script.
+#[derive(Drop)]
+pub enum ScriptLine {
+    /// The limits of the node.
+    Limits(Limits),
+    /// The pass that calls, its call, and why the metadata that it would bring did not read.
+    Call {
+        pass: u32,
+        call: Call,
+        note: Option<MetaFault>,
+    },
+}
+
+/// Why no line was read.
+#[derive(Clone, Copy, Debug, PartialEq, Eq)]
+pub enum ScriptFault {
+    /// It is no script line.
+    NotALine,
+    /// Want of memory.
+    Memory,
+}
+
+impl From<AllocError> for ScriptFault {
+    ghost use Rattle.std.specs.Prelude.{◌≡◌};
+    ghost use Rattle.script_line.specs.declared.line.ScriptFault.TheVariants as fault;
+
+    ghost from_gives = { λ _ given. given ≡ fault.Memory };
+
+    fn from(_error: AllocError) -> ScriptFault {
+        ScriptFault::Memory
+    }
+}

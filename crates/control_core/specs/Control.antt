@@ -1,4 +1,4 @@
--- The log files that are kept.
+-- The triggers that are not deleted, and the log files that are kept.
 use Rattle.std.specs.Prelude.{ℕ, ◌+◌, Bool, ◌==◌, List, [], ◌∷◌, ◌++◌, length, None, Some, if◌then◌else◌}
 use Rattle.std.specs.List.{find}
 use Rattle.std.specs.Option.{option_map}
@@ -7,16 +7,19 @@ use Rattle.cdni_base.specs.Limits.{Bounds}
 use Rattle.cdni_log.specs.File.{file_text}
 use Rattle.cdni_log.specs.declared.row.FileHead.{FileHead}
 use Rattle.cdni_log.specs.declared.row.Row.{Row}
+use Rattle.history.specs.World.{Trigger}
+use Rattle.trigger_table.specs.Triggers.{TriggersView}
 use Rattle.control_core.specs.declared.control.LogFile.{LogFile}
 
--- the kept files, in order, how many are kept at most, and how many there ever were
+-- the triggers; the kept files, in order, how many are kept at most, and how many there ever were
 pub record ControlView : Type 0 where
+  pub triggers : TriggersView
   pub files : List LogFile
   pub most : ℕ
   pub filed : ℕ
 
 abbrev pub empty : Bounds → ControlView
-empty limits = record { files = []; most = limits.files; filed = 0 }
+empty limits = record { triggers = record { triggers = []; most = limits.triggers; created = 0 }; files = []; most = limits.files; filed = 0 }
 
 abbrev pub has_number : ℕ → LogFile → Bool
 has_number number file = file.number == number
@@ -24,6 +27,12 @@ has_number number file = file.number == number
 -- the text of the file of this number
 abbrev pub text_at : ℕ → List LogFile → Option (List ℕ)
 text_at number files = option_map (λ file. file.text) (find (has_number number) files)
+
+abbrev pub with_table : ControlView → TriggersView → ControlView
+with_table v table = record v { triggers = table }
+
+abbrev pub with_triggers : ControlView → List Trigger → ControlView
+with_triggers v triggers = with_table v (record v.triggers { triggers = triggers })
 
 -- ---- a file more
 

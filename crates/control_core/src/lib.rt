@@ -1,4 +1,4 @@
-//! The side of the core that keeps log files. It sees no history: its value is what a history leaves of them, without
+//! The side of the core that keeps triggers and log files. It sees no history: its value is what a history leaves of them, without
 //! positions.
 #![tactic(auto)]
 

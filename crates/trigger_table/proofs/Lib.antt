@@ -1,4 +1,5 @@
 pub mod Cancels
+pub mod Ends
 pub mod Places
 pub mod Ready
 pub mod Rising

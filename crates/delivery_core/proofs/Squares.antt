@@ -2,7 +2,7 @@
 use Rattle.std.proofs.Common.{◌≡◌, ℕ, ◌+◌, ◌<◌, ◌≤◌, ◌==◌, nat_lt, Bool, true, false, cond, not, ◌&&◌, ◌||◌, All, List, [], ◌∷◌, ◌++◌, length, map, None, Some, option_to_list, refl, sym, ap, ◌∙◌, arith, Option}
 use Rattle.std.specs.List.{filter, find, list_any}
 use Rattle.std.specs.Option.{is_some, option_and_then, option_map, option_map_or, option_or}
-use Rattle.std.proofs.lemmas.Bool.{le-ltb, lt-ltb}
+use Rattle.std.proofs.lemmas.Bool.{le-ltb, lt-ltb, ltb-false, or_parts}
 use Rattle.std.proofs.lemmas.List.{append-nil, length-append, length-map, map-append}
 use Rattle.std.proofs.lemmas.List.Elements.{All-head, All-tail, All-weaker, filter-append}
 use Rattle.std.proofs.lemmas.List.Folds.{find-append, list_any-append}
@@ -14,6 +14,7 @@ use Rattle.location_acl.specs.declared.footprint.Place.{Place}
 use Rattle.metadata_objects.specs.LevelData.{Index}
 use Rattle.metadata_objects.specs.Tree.{TreeData}
 use Rattle.metadata_objects.specs.declared.generic.Generic.{Generic}
+use Rattle.targets.specs.declared.endpoint.Endpoint.{Endpoint}
 use Rattle.targets.specs.declared.target.Target.{Target}
 use Rattle.trigger_command.specs.Selection.{hits, hits_metadata, pattern_hits, url_hits}
 use Rattle.trigger_command.specs.Spec.{SpecParts}
@@ -22,12 +23,15 @@ use Rattle.trigger_command.specs.declared.selection.Selection.{Selection}
 use Rattle.trigger_command.specs.declared.selection.UrlItem.{UrlItem}
 use Rattle.trigger_command.specs.declared.spec.TriggerKind.{TriggerKind}
 use Rattle.trigger_command.specs.declared.spec.TriggerKind.TheVariants.{Preposition, Invalidate, Purge}
+use Rattle.trigger_status.specs.declared.job.Filter.{Filter}
+use Rattle.trigger_status.specs.declared.job.Job.{Job}
+use Rattle.trigger_status.specs.declared.job.JobStatus.{JobStatus}
 use Rattle.upstream_gate.specs.declared.outcome.Outcome.{Outcome}
 use Rattle.cdni_log.specs.declared.row.Row.{Row}
 use Rattle.history.specs.After.{admission, after, after_reply, closed, fetching, installed_by, new_rows, opened_by, position, recorded, row_of, start_by, start_of}
 use Rattle.history.specs.Event.{Event, Admit, FetchEnd, Finish, RefreshBegin, RefreshEnd, Command, Advance, Cancel, Delete, ReadStatus, Lists, Cut, DropLog, LogFile, ListLogs}
 use Rattle.history.specs.Kept.{is_hit_since, kept_of, unhit as unhit_since, used, with_gained}
-use Rattle.history.specs.Metadata.{forbidden, is_skipped, key_by, objects_of, plan_at}
+use Rattle.history.specs.Metadata.{ccid_at, forbidden, is_skipped, key_at, key_by, objects_of, plan_at}
 use Rattle.history.specs.Reply as replies
 use Rattle.history.specs.Reply.{allowed_reply, judged_reply, pending, reply_in}
 use Rattle.history.specs.Steps as steps
@@ -66,6 +70,9 @@ same_rows w = ap (map row_in) (append-nil w.delivering.unfiled)
 cons_is : {A : Type 0} {x y : A} {xs ys : List A} → x ≡ y → xs ≡ ys → x ∷ xs ≡ y ∷ ys
 cons_is p q i = p i ∷ q i
 
+same_some : {A : Type 0} {a b : A} → Some a ≡ Some b → a ≡ b
+same_some is = cc
+
 or_nothing : (t : Bool) → (t || false) ≡ t
 or_nothing true = refl
 or_nothing false = refl
@@ -91,8 +98,9 @@ none_noted at (start ∷ starts) before =
 no_metadata : (urls : List UrlItem) (patterns : List PatternItem) (resource : KeyParts) → (nat_lt 0 (length urls) || nat_lt 0 (length patterns)) ≡ false
     → (list_any (url_hits resource) urls || list_any (pattern_hits resource) patterns) ≡ false
 no_metadata [] [] resource none = refl
-no_metadata [] (item ∷ patterns) resource none = absurd (cc)
-no_metadata (item ∷ urls) patterns resource none = absurd (cc)
+no_metadata [] (item ∷ patterns) resource none = let none' = ltb-false 0 (length (item ∷ patterns)) none in absurd (omega (arith, none'))
+no_metadata (item ∷ urls) patterns resource none =
+    let none' = ltb-false 0 (length (item ∷ urls)) (or_parts (nat_lt 0 (length (item ∷ urls))) (nat_lt 0 (length patterns)) none).0 in absurd (omega (arith, none'))
 
 selects_none : (selection : Selection) (resources : List KeyParts) → selects_metadata selection ≡ false → list_any (hits_metadata selection) resources ≡ false
 unfolding hits_metadata
@@ -106,28 +114,35 @@ same_hits selection [] = refl
 same_hits selection (resource ∷ resources) = ap (λ t. hits_metadata selection resource || t) (same_hits selection resources)
 
 -- the first start that hits is one of those that a refresh has to know
+module _ (resources : List KeyParts) (start : Start) (starts : List Start) (notes : List Noted) (rest : Option Start) (later : first_noted resources notes ≡ option_map (λ (s : Start). s.trigger) rest) where
+  abbrev trigger_of_first : Bool → Option ℕ
+  trigger_of_first hit = option_map (λ (s : Start). s.trigger) (cond hit (Some start) rest)
+
+  note_found : (t : Bool) → list_any (hits_metadata (metadata_of start.selection)) resources ≡ t → first_noted resources (note_of start ∷ notes) ≡ trigger_of_first t
+  note_found true is = ap (λ t. option_map (λ (n : Noted). n.trigger) (cond t (Some (note_of start)) (find (λ (n : Noted). list_any (hits_metadata n.selection) resources) notes))) is
+  note_found false is =
+      ap (λ t. option_map (λ (n : Noted). n.trigger) (cond t (Some (note_of start)) (find (λ (n : Noted). list_any (hits_metadata n.selection) resources) notes))) is ∙ later
+
+  start_found : (selects : Bool) → selects_metadata start.selection ≡ selects
+      → first_noted resources (cond selects (note_of start ∷ notes) notes) ≡ trigger_of_first (list_any (hits_metadata start.selection) resources)
+  start_found false is = later ∙ sym (ap trigger_of_first (selects_none start.selection resources is))
+  start_found true is = note_found (list_any (hits_metadata start.selection) resources) (same_hits start.selection resources)
+
+map_cond : (t : Bool) (start : Start) (starts : List Start) → map note_of (cond t (start ∷ starts) starts) ≡ cond t (note_of start ∷ map note_of starts) (map note_of starts)
+map_cond true start starts = refl
+map_cond false start starts = refl
+
 first_noted_is : (at : ℕ) (resources : List KeyParts) (starts : List Start) → first_noted resources (noted_since at starts) ≡ steps.first_hit starts at resources
 first_noted_is at resources [] = refl
-first_noted_is at resources (start ∷ starts) = first_by (nat_lt at start.at) (selects_metadata start.selection) refl (first_noted_is at resources starts)
+first_noted_is at resources (start ∷ starts) = after_by (nat_lt at start.at) (first_noted_is at resources starts)
   where
-    abbrev rest : Option Start
-    rest = find (λ (s : Start). nat_lt at s.at && list_any (hits_metadata s.selection) resources) starts
-
-    found_by : (t : Bool) → list_any (hits_metadata (metadata_of start.selection)) resources ≡ t → list_any (hits_metadata start.selection) resources ≡ t → first_noted resources (noted_since at starts) ≡ option_map (λ (s : Start). s.trigger) rest
-        → first_noted resources (note_of start ∷ noted_since at starts) ≡ option_map (λ (s : Start). s.trigger) (cond (list_any (hits_metadata start.selection) resources) (Some start) rest)
-    found_by true is same later =
-        ap (λ t. option_map (λ (n : Noted). n.trigger) (cond t (Some (note_of start)) (find (λ (n : Noted). list_any (hits_metadata n.selection) resources) (noted_since at starts)))) is
-        ∙ sym (ap (λ t. option_map (λ (s : Start). s.trigger) (cond t (Some start) rest)) same)
-    found_by false is same later =
-        ap (λ t. option_map (λ (n : Noted). n.trigger) (cond t (Some (note_of start)) (find (λ (n : Noted). list_any (hits_metadata n.selection) resources) (noted_since at starts)))) is
-        ∙ later ∙ sym (ap (λ t. option_map (λ (s : Start). s.trigger) (cond t (Some start) rest)) same)
-
-    first_by : (after_it selects : Bool) → selects_metadata start.selection ≡ selects → first_noted resources (noted_since at starts) ≡ option_map (λ (s : Start). s.trigger) rest
-        → first_noted resources (map note_of (cond (after_it && selects) (start ∷ filter (is_noted at) starts) (filter (is_noted at) starts)))
-        ≡ option_map (λ (s : Start). s.trigger) (cond (after_it && list_any (hits_metadata start.selection) resources) (Some start) rest)
-    first_by false selects is later = later
-    first_by true false is later = later ∙ sym (ap (λ t. option_map (λ (s : Start). s.trigger) (cond t (Some start) rest)) (selects_none start.selection resources is))
-    first_by true true is later = found_by (list_any (hits_metadata start.selection) resources) (same_hits start.selection resources) refl later
+    after_by : (t : Bool) → first_noted resources (noted_since at starts) ≡ steps.first_hit starts at resources
+        → first_noted resources (map note_of (cond (t && selects_metadata start.selection) (start ∷ filter (is_noted at) starts) (filter (is_noted at) starts)))
+        ≡ option_map (λ (s : Start). s.trigger) (cond (t && list_any (hits_metadata start.selection) resources) (Some start) (find (λ (s : Start). nat_lt at s.at && list_any (hits_metadata s.selection) resources) starts))
+    after_by false later = later
+    after_by true later =
+        ap (first_noted resources) (map_cond (selects_metadata start.selection) start (filter (is_noted at) starts))
+        ∙ start_found resources start starts (noted_since at starts) (find (λ (s : Start). nat_lt at s.at && list_any (hits_metadata s.selection) resources) starts) later (selects_metadata start.selection) refl
 
 -- ---- metadata
 
@@ -179,11 +194,11 @@ module _ (w : World) (pass : ℕ) (asked : Asked) (place : Place) (moment : ℕ)
   rule = forbidden index invalid asked place moment
 
   -- what is decided of it, by what the history has left
-  abbrev decision : Decision
-  decision = decided index v.kept asked.target rule
+  abbrev taken : Decision
+  taken = decided index v.kept asked.target rule
 
-  decision_is : decision_of v asked place moment ≡ decision
-  decision_is =
+  taken_is : decision_of v asked place moment ≡ taken
+  taken_is =
       ap (λ i. decided i v.kept asked.target (forbidden i (invalid_of v) asked place moment)) (index_is w)
       ∙ ap (λ t. decided index v.kept asked.target (forbidden index t asked place moment)) (invalid_is w)
 
@@ -210,7 +225,7 @@ module _ (w : World) (pass : ℕ) (asked : Asked) (place : Place) (moment : ℕ)
   admit_replies =
       ap (λ n. reply_of (admit_reply_by v (decision_of v asked place moment) (cond (n == w.made.limits.rows) (Some n) (cond (w.counts.opened == w.made.limits.opened) (Some w.counts.opened) None)))) pending_is
       ∙ limited (pending w.delivering == w.made.limits.rows) (w.counts.opened == w.made.limits.opened) (pending w.delivering) _ _
-      (ap (λ d. reply_of (entered_reply v d)) decision_is ∙ entered_is rule)
+      (ap (λ d. reply_of (entered_reply v d)) taken_is ∙ entered_is rule)
 
   found_after : IsPlaced w → (found : Option Kept) → edge_of (after_reply w (pass, Admit asked place moment) (allowed_reply w asked found)) ≡ entered v pass (admission asked place moment None false) (allowed_by (objects_of index asked.target) asked.target found)
   unfolding after_reply
@@ -242,8 +257,8 @@ module _ (w : World) (pass : ℕ) (asked : Asked) (place : Place) (moment : ℕ)
   pub admit_leaves : IsPlaced w → edge_of (after w (pass, Admit asked place moment)) ≡ admit_after v pass w.counts.opened asked place moment
   unfolding reply_in after
   admit_leaves placed =
-      limited_after (pending w.delivering == w.made.limits.rows) (w.counts.opened == w.made.limits.opened) (pending w.delivering) decision _ (judged_after placed rule)
-      ∙ sym (ap (λ d. admit_after_by v pass (admission asked place moment None false) d (cond (pending w.delivering == w.made.limits.rows) (Some (pending w.delivering)) (cond (w.counts.opened == w.made.limits.opened) (Some w.counts.opened) None))) decision_is)
+      limited_after (pending w.delivering == w.made.limits.rows) (w.counts.opened == w.made.limits.opened) (pending w.delivering) taken _ (judged_after placed rule)
+      ∙ sym (ap (λ d. admit_after_by v pass (admission asked place moment None false) d (cond (pending w.delivering == w.made.limits.rows) (Some (pending w.delivering)) (cond (w.counts.opened == w.made.limits.opened) (Some w.counts.opened) None))) taken_is)
       ∙ sym (ap (λ n. admit_after_by v pass (admission asked place moment None false) (decision_of v asked place moment) (cond (n == w.made.limits.rows) (Some n) (cond (w.counts.opened == w.made.limits.opened) (Some w.counts.opened) None))) pending_is)
 
 -- ---- the end of a fetch
@@ -635,3 +650,144 @@ module _ (w : World) (pass id moment : ℕ) where
   pub no_start_leaves : start_of w id ≡ None → edge_of (after_reply w (pass, advance) reply.Started) ≡ edge_of w
   unfolding edge_with
   no_start_leaves is = started_by None is ∙ ap (λ starts. edge_with starts w.delivering.kept) (append-nil w.delivering.starts)
+
+-- ---- a trigger's fetch of a URL
+
+module _ (w : World) (pass id moment : ℕ) (url : Target) where
+  abbrev is_left_out : Bool
+  is_left_out = is_skipped (steps.index_of w.delivering) (steps.invalid_of w.delivering) url
+
+  pub skips_is : skips (edge_of w) url ≡ is_left_out
+  skips_is = ap (λ i. is_skipped i (invalid_of (edge_of w)) url) (index_is w) ∙ ap (λ t. is_skipped (steps.index_of w.delivering) t url) (invalid_is w)
+
+  abbrev planned_of : Fetching × List Endpoint → Planned
+  planned_of found = record { fetch = w.counts.fetched + 1; plan = found.1 }
+
+  -- what the edge's own metadata says is what the history's does
+  sourced_is : sourced (edge_of w) url ≡ cond is_left_out None (Some (fetching w url, plan_at (steps.index_of w.delivering) url))
+  sourced_is =
+      ap (λ t. cond t None (Some (record { key = key_at (index_of (edge_of w)) url; ccid = ccid_at (index_of (edge_of w)) url }, plan_at (index_of (edge_of w)) url))) skips_is
+      ∙ ap (λ i. cond is_left_out None (Some (record { key = key_at i url; ccid = ccid_at i url }, plan_at i url))) (index_is w)
+
+  abbrev fetch : Reply
+  fetch = reply.Fetch (w.counts.fetched + 1) (plan_at (steps.index_of w.delivering) url) url
+
+  planned_cases : (t : Bool) (found : Option (Fetching × List Endpoint)) → found ≡ cond t None (Some (fetching w url, plan_at (steps.index_of w.delivering) url)) → (planned : Planned)
+      → option_map planned_of found ≡ Some planned → (place : ℕ)
+      → cond t (reply.Skipped place) (replies.opening w fetch) ≡ replies.opening w (reply.Fetch planned.fetch planned.plan url)
+  planned_cases true found is planned some place = absurd (none-some planned (sym (ap (option_map planned_of) is) ∙ some))
+  planned_cases false found is planned some place =
+      let same : Some (planned_of (fetching w url, plan_at (steps.index_of w.delivering) url)) ≡ Some planned = sym (ap (option_map planned_of) is) ∙ some in
+      ap (λ (p : Planned). replies.opening w (reply.Fetch p.fetch p.plan url)) (same_some same)
+
+  -- where a fetch is planned the URL's fetch begins, or the node is full
+  pub planned_replies : (planned : Planned) → plan_reply (edge_of w) url ≡ Some planned → (place : ℕ) → replies.url_reply w place url ≡ replies.opening w (reply.Fetch planned.fetch planned.plan url)
+  planned_replies planned is place = planned_cases is_left_out (sourced (edge_of w) url) sourced_is planned is place
+
+  skipped_cases : (t : Bool) (found : Option (Fetching × List Endpoint)) → found ≡ cond t None (Some (fetching w url, plan_at (steps.index_of w.delivering) url))
+      → option_map planned_of found ≡ None → (place : ℕ)
+      → cond t (reply.Skipped place) (replies.opening w fetch) ≡ reply.Skipped place
+  skipped_cases true found is none place = refl
+  skipped_cases false found is none place = absurd (none-some _ (sym none ∙ ap (option_map planned_of) is))
+
+  -- and where none is, it is skipped
+  pub skipped_replies : plan_reply (edge_of w) url ≡ None → (place : ℕ) → replies.url_reply w place url ≡ reply.Skipped place
+  skipped_replies is place = skipped_cases is_left_out (sourced (edge_of w) url) sourced_is is place
+
+  planned_after : IsPlaced w → (plan : List Endpoint) → edge_of (after_reply w (pass, Advance id moment) (reply.Fetch (w.counts.fetched + 1) plan url)) ≡ record (edge_of w) { fetches = with_flight (edge_of w) pass (fetching w url); fetched = w.counts.fetched + 1 }
+  unfolding after_reply
+  planned_after placed plan =
+      ap (λ (lists : List (Open Flight) × List Row). record (edge_of w) { fetches = lists.0; fetched = w.counts.fetched + 1; unfiled = lists.1 }) (pair_is (flights_push w placed pass (fetching w url)) (same_rows w))
+
+  plan_cases : IsPlaced w → (t : Bool) (found : Option (Fetching × List Endpoint)) → found ≡ cond t None (Some (fetching w url, plan_at (steps.index_of w.delivering) url)) → (planned : Planned)
+      → option_map planned_of found ≡ Some planned
+      → edge_of (after_reply w (pass, Advance id moment) (reply.Fetch planned.fetch planned.plan url)) ≡ plan_after_by (edge_of w) pass found
+  plan_cases placed true found is planned some = absurd (none-some planned (sym (ap (option_map planned_of) is) ∙ some))
+  plan_cases placed false found is planned some =
+      let same : Some (planned_of (fetching w url, plan_at (steps.index_of w.delivering) url)) ≡ Some planned = sym (ap (option_map planned_of) is) ∙ some in
+      ap (λ (p : Planned). edge_of (after_reply w (pass, Advance id moment) (reply.Fetch p.fetch p.plan url))) (sym (same_some same))
+      ∙ planned_after placed (plan_at (steps.index_of w.delivering) url) ∙ sym (ap (plan_after_by (edge_of w) pass) is)
+
+  pub plan_leaves : IsPlaced w → (planned : Planned) → plan_reply (edge_of w) url ≡ Some planned
+      → edge_of (after_reply w (pass, Advance id moment) (reply.Fetch planned.fetch planned.plan url)) ≡ plan_after (edge_of w) pass url
+  plan_leaves placed planned is = plan_cases placed is_left_out (sourced (edge_of w) url) sourced_is planned is
+
+  -- nothing is left of a URL that is skipped
+  pub no_plan_leaves : plan_reply (edge_of w) url ≡ None → edge_of w ≡ plan_after (edge_of w) pass url
+  no_plan_leaves is = no_plan (sourced (edge_of w) url) is
+    where
+      no_plan : (found : Option (Fetching × List Endpoint)) → option_map planned_of found ≡ None → edge_of w ≡ plan_after_by (edge_of w) pass found
+      no_plan None none = refl
+      no_plan (Some f) none = absurd (none-some _ (sym none))
+
+-- ---- other steps of a trigger
+
+module _ (w : World) (pass id moment : ℕ) where
+  -- a preposition's refresh of its metadata begins, due or not
+  pub step_refresh_leaves : IsPlaced w → (refresh : ℕ) → edge_of (after_reply w (pass, Advance id moment) (reply.Refresh refresh)) ≡ begin_after (edge_of w) pass moment (began.Due refresh)
+  unfolding after_reply
+  step_refresh_leaves placed refresh = ap (λ (lists : List (Open Refreshing) × List Row). record (edge_of w) { refreshes = lists.0; refreshed = refresh; unfiled = lists.1 })
+      (pair_is (refreshes_push w placed pass refresh moment) (same_rows w))
+
+  pub step_skipped_leaves : (place : ℕ) → edge_of (after_reply w (pass, Advance id moment) (reply.Skipped place)) ≡ edge_of w
+  unfolding after_reply
+  step_skipped_leaves place = ap (λ rows. record (edge_of w) { unfiled = rows }) (same_rows w)
+
+  pub step_full_leaves : (count : ℕ) → edge_of (after_reply w (pass, Advance id moment) (reply.Full count)) ≡ edge_of w
+  unfolding after_reply
+  step_full_leaves count = ap (λ rows. record (edge_of w) { unfiled = rows }) (same_rows w)
+
+  pub step_final_leaves : (status : JobStatus) → edge_of (after_reply w (pass, Advance id moment) (reply.Final status)) ≡ edge_of w
+  unfolding after_reply
+  step_final_leaves status = ap (λ rows. record (edge_of w) { unfiled = rows }) (same_rows w)
+
+  pub step_claimed_leaves : (claimant : ℕ) → edge_of (after_reply w (pass, Advance id moment) (reply.Claimed claimant)) ≡ edge_of w
+  unfolding after_reply
+  step_claimed_leaves claimant = ap (λ rows. record (edge_of w) { unfiled = rows }) (same_rows w)
+
+  pub step_open_leaves : (number : ℕ) → edge_of (after_reply w (pass, Advance id moment) (reply.StepOpen number)) ≡ edge_of w
+  unfolding after_reply
+  step_open_leaves number = ap (λ rows. record (edge_of w) { unfiled = rows }) (same_rows w)
+
+  pub step_unknown_leaves : edge_of (after_reply w (pass, Advance id moment) (reply.Unknown id)) ≡ edge_of w
+  unfolding after_reply
+  step_unknown_leaves = ap (λ rows. record (edge_of w) { unfiled = rows }) (same_rows w)
+
+-- ---- other calls of triggers
+
+module _ (w : World) (pass : ℕ) where
+  pub command_leaves : (spec : SpecParts) (moment id : ℕ) → edge_of (after_reply w (pass, Command spec moment) (reply.Created id)) ≡ edge_of w
+  unfolding after_reply
+  command_leaves spec moment id = ap (λ rows. record (edge_of w) { unfiled = rows }) (same_rows w)
+
+  pub full_command_leaves : (spec : SpecParts) (moment count : ℕ) → edge_of (after_reply w (pass, Command spec moment) (reply.Full count)) ≡ edge_of w
+  unfolding after_reply
+  full_command_leaves spec moment count = ap (λ rows. record (edge_of w) { unfiled = rows }) (same_rows w)
+
+  pub cancel_leaves : (ids : List ℕ) (moment : ℕ) (statuses : List JobStatus) → edge_of (after_reply w (pass, Cancel ids moment) (reply.Statuses statuses)) ≡ edge_of w
+  unfolding after_reply
+  cancel_leaves ids moment statuses = ap (λ rows. record (edge_of w) { unfiled = rows }) (same_rows w)
+
+  pub no_cancel_leaves : (ids : List ℕ) (moment id : ℕ) → edge_of (after_reply w (pass, Cancel ids moment) (reply.Unknown id)) ≡ edge_of w
+  unfolding after_reply
+  no_cancel_leaves ids moment id = ap (λ rows. record (edge_of w) { unfiled = rows }) (same_rows w)
+
+  pub delete_leaves : (id : ℕ) → edge_of (after_reply w (pass, Delete id) reply.Deleted) ≡ edge_of w
+  unfolding after_reply
+  delete_leaves id = ap (λ rows. record (edge_of w) { unfiled = rows }) (same_rows w)
+
+  pub no_delete_leaves : (id : ℕ) → edge_of (after_reply w (pass, Delete id) (reply.Unknown id)) ≡ edge_of w
+  unfolding after_reply
+  no_delete_leaves id = ap (λ rows. record (edge_of w) { unfiled = rows }) (same_rows w)
+
+  pub status_leaves : (id : ℕ) (job : Job) → edge_of (after_reply w (pass, ReadStatus id) (reply.Resource job)) ≡ edge_of w
+  unfolding after_reply
+  status_leaves id job = ap (λ rows. record (edge_of w) { unfiled = rows }) (same_rows w)
+
+  pub no_status_leaves : (id : ℕ) → edge_of (after_reply w (pass, ReadStatus id) (reply.Unknown id)) ≡ edge_of w
+  unfolding after_reply
+  no_status_leaves id = ap (λ rows. record (edge_of w) { unfiled = rows }) (same_rows w)
+
+  pub collection_leaves : (filter : Filter) (ids : List ℕ) → edge_of (after_reply w (pass, Lists filter) (reply.Collection filter ids)) ≡ edge_of w
+  unfolding after_reply
+  collection_leaves filter ids = ap (λ rows. record (edge_of w) { unfiled = rows }) (same_rows w)

@@ -1,5 +1,5 @@
 -- What a history leaves is at positions of its own.
-use Rattle.std.proofs.Common.{◌≡◌, ℕ, ◌+◌, ◌≤◌, Bool, true, false, cond, List, [], ◌∷◌, ◌++◌, All, None, Some, Option, refl, sym, subst, append_assoc, arith}
+use Rattle.std.proofs.Common.{◌≡◌, ℕ, ◌≤◌, Bool, true, false, cond, List, [], ◌∷◌, ◌++◌, All, None, Some, Option, refl, sym, subst, append_assoc, arith}
 use Rattle.std.specs.List.{filter, find}
 use Rattle.std.specs.Option.{option_and_then, option_map_or, option_to_list}
 use Rattle.std.proofs.lemmas.List.Elements.{All-append, All-filter, All-head, All-nil, All-push, All-tail, All-weaker}
@@ -18,7 +18,6 @@ use Rattle.history.specs.Steps.{trigger_of}
 use Rattle.history.specs.World.{Begun, Installed, Made, Start, Trigger, World, is_open, nothing}
 use Rattle.history.specs.declared.begun.Fetching.{Fetching}
 use Rattle.history.specs.declared.reply.Reply.{Reply}
-use Rattle.history.specs.declared.reply.Reply.TheVariants as reply
 use Rattle.delivery_core.specs.Traces.{IsPlaced}
 
 -- what is found in a list is as all of it

@@ -1,6 +1,7 @@
 -- The table's objects as kept objects.
-use Rattle.std.proofs.Common.{◌≡◌, ℕ, ◌+◌, ◌≤◌, Bool, true, false, cond, not, nat_le, List, [], ◌∷◌, ◌++◌, length, map, None, Some, refl, sym, ap, ◌∙◌, ◌&&◌, ◌==◌}
-use Rattle.std.specs.List.{filter, find}
+use Rattle.std.proofs.Common.{◌≡◌, ℕ, Bool, true, false, cond, not, nat_le, nat_lt, List, [], ◌∷◌, ◌++◌, length, map, None, Some, refl, sym, ap, ◌∙◌, ◌&&◌, ◌||◌, ◌==◌, arith}
+use Rattle.std.specs.List.{filter, find, list_any}
+use Rattle.std.proofs.lemmas.Bool.{ltb-false, or_parts}
 use Rattle.std.specs.Option.{is_some, option_and_then, option_map, option_to_list}
 use Rattle.std.specs.declared.option.Option.{Option}
 use Rattle.std.proofs.lemmas.List.{map-append}
@@ -8,16 +9,15 @@ use Rattle.cdni_base.specs.Key.{KeyParts}
 use Rattle.rows.specs.Row.{moved}
 use Rattle.object_cache.specs.ObjectTable as objects
 use Rattle.object_cache.specs.declared.object.Object.{Object}
-use Rattle.trigger_command.specs.Selection.{hits}
+use Rattle.trigger_command.specs.Selection.{hits, is_ccid, pattern_hits, url_hits}
 use Rattle.trigger_command.specs.declared.selection.Selection.{Selection}
 use Rattle.upstream_gate.specs.Got.{GotParts}
-use Rattle.upstream_gate.specs.declared.outcome.Outcome.{Outcome}
 use Rattle.upstream_gate.specs.declared.outcome.Outcome.TheVariants as outcome
-use Rattle.history.specs.Kept.{full_content, is_of, kept_of, others, used, total, size_of, evicted, put, is_newer, is_kept, kept_content, with_gained}
+use Rattle.history.specs.Kept.{is_of, kept_of, used, total, size_of, evicted, put, is_newer, is_kept, kept_content, with_gained}
 use Rattle.history.specs.World.{Kept}
 use Rattle.delivery_core.proofs.ListLemmas.{find-map, filter-map, option_to_list-map, sum_by-map}
 use Rattle.delivery_core.specs.Open.{AreRising, AreUpTo}
-use Rattle.delivery_core.specs.Shelf.{ShelfView, kept_object, gain, is_gained, brought, struck, unhit}
+use Rattle.delivery_core.specs.Shelf.{ShelfView, kept_object, gain, is_gained, brought, selects_content, start_after, struck, unhit}
 use Rattle.delivery_core.specs.declared.open.Open.{Open}
 use Rattle.delivery_core.specs.declared.shelf.Flight.{Flight}
 
@@ -70,13 +70,6 @@ and_true : (a : Bool) → (a && true) ≡ a
 and_true true = refl
 and_true false = refl
 
-abbrev brought_by_it : Open Flight → GotParts → Kept
-brought_by_it flight got = kept_object (object_of flight got)
-
-and_false : (a : Bool) → (a && false) ≡ false
-and_false true = refl
-and_false false = refl
-
 module _ (limit : ℕ) (os : List Object) (flight : Open Flight) (got : GotParts) where
   abbrev new : Kept
   new = kept_object (object_of flight got)
@@ -109,20 +102,6 @@ module _ (limit : ℕ) (os : List Object) (flight : Open Flight) (got : GotParts
     pub brought_full : brought limit (map kept_object os) flight (outcome.Got got) ≡ map kept_object (objects.filled limit os (object_of flight got))
     brought_full = ap (with_gained limit (map kept_object os)) gain_is ∙ brought_by (objects.is_filled limit os (object_of flight got))
 
--- of what a start has hit nothing is gained
-module _ (limit : ℕ) (kept : List Kept) (flight : Open Flight) (ended : Outcome) (hit : flight.what.hit ≡ true) where
-  none_by : (found : Option GotParts) → option_and_then (kept_content limit flight.what.hit kept flight.number flight.what.fetching) found ≡ None
-  none_by None = refl
-  none_by (Some got) =
-      let fits = nat_le (length got.body) limit && not (is_newer flight.number (kept_of flight.what.fetching.key kept)) in
-      ap (λ h. cond (fits && not h) (Some (brought_by_it flight got)) None) hit ∙ ap (λ t. cond t (Some (brought_by_it flight got)) None) (and_false fits)
-
-  pub gained_hit : is_gained limit kept flight ended ≡ false
-  gained_hit = ap (λ (o : Option Kept). is_some o) (none_by (full_content ended))
-
-  pub brought_hit : brought limit kept flight ended ≡ kept
-  brought_hit = ap (with_gained limit kept) (none_by (full_content ended))
-
 -- ---- the start of a trigger
 
 pub unhit_kept : (selection : Selection) (os : List Object) → map kept_object (objects.unhit selection os) ≡ unhit selection (map kept_object os)
@@ -136,3 +115,37 @@ module _ (selection : Selection) where
   pub struck_rising : (low : ℕ) (all : List (Open Flight)) → AreRising low all → AreRising low (map (struck selection) all)
   struck_rising low [] rising = tt
   struck_rising low (one ∷ all) rising = (rising.0, struck_rising one.number all rising.1)
+
+-- where a selection selects no content, it hits none
+empty_list : {A : Type 0} (xs : List A) → nat_lt 0 (length xs) ≡ false → xs ≡ []
+empty_list [] none = refl
+empty_list (x ∷ xs) none = let few = ltb-false 0 (length (x ∷ xs)) none in absurd (omega (arith, few))
+
+or_nothing : (t : Bool) → (t || false) ≡ t
+or_nothing true = refl
+or_nothing false = refl
+
+module _ (selection : Selection) (none : selects_content selection ≡ false) where
+  hits_none : (key : KeyParts) (ccid : Option (List ℕ)) → hits selection key ccid ≡ false
+  unfolding hits
+  hits_none key ccid =
+      let outer = or_parts (nat_lt 0 (length selection.content_urls) || nat_lt 0 (length selection.content_patterns)) (nat_lt 0 (length selection.ccids)) none in
+      let inner = or_parts (nat_lt 0 (length selection.content_urls)) (nat_lt 0 (length selection.content_patterns)) outer.0 in
+      ap (λ urls. (list_any (url_hits key) urls || list_any (pattern_hits key) selection.content_patterns) || list_any (is_ccid ccid) selection.ccids) (empty_list selection.content_urls inner.0)
+      ∙ ap (λ patterns. list_any (pattern_hits key) patterns || list_any (is_ccid ccid) selection.ccids) (empty_list selection.content_patterns inner.1)
+      ∙ ap (λ ccids. list_any (is_ccid ccid) ccids) (empty_list selection.ccids outer.1)
+
+  unhit_all : (all : List Kept) → unhit selection all ≡ all
+  unhit_all [] = refl
+  unhit_all (one ∷ all) = ap (λ t. cond (not t) (one ∷ unhit selection all) (unhit selection all)) (hits_none one.key one.ccid) ∙ ap (λ rest. one ∷ rest) (unhit_all all)
+
+  struck_none : (all : List (Open Flight)) → map (struck selection) all ≡ all
+  struck_none [] = refl
+  struck_none (one ∷ all) =
+      ap (λ t. record one { what = record one.what { hit = one.what.hit || t } } ∷ map (struck selection) all) (hits_none one.what.fetching.key one.what.fetching.ccid)
+      ∙ ap (λ t. record one { what = record one.what { hit = t } } ∷ map (struck selection) all) (or_nothing one.what.hit) ∙ ap (λ rest. one ∷ rest) (struck_none all)
+
+  -- and such a start changes nothing of the shelf
+  pub start_none : (s : ShelfView) → s ≡ start_after s selection
+  start_none s =
+      sym (ap (λ kept. shelf s.limit kept (map (struck selection) s.fetches) s.fetched) (unhit_all s.kept) ∙ ap (λ fetches. shelf s.limit s.kept fetches s.fetched) (struck_none s.fetches))

@@ -36,7 +36,7 @@ use Rattle.history.specs.Reply as replies
 use Rattle.history.specs.Reply.{allowed_reply, judged_reply, pending, reply_in}
 use Rattle.history.specs.Steps as steps
 use Rattle.history.specs.Steps.{trigger_of}
-use Rattle.history.specs.World.{Begun, Delivering, Installed, Kept, Start, Trigger, World, is_open}
+use Rattle.history.specs.World.{Begun, Installed, Kept, Start, Trigger, World, is_open}
 use Rattle.history.specs.declared.begun.Admission.{Admission}
 use Rattle.history.specs.declared.begun.Fetching.{Fetching}
 use Rattle.history.specs.declared.reply.Reply.{Reply}
@@ -208,7 +208,7 @@ module _ (w : World) (pass : ℕ) (asked : Asked) (place : Place) (moment : ℕ)
   found_is objects is (Some kept) = refl
 
   entered_is : (rule : Option Rule) → reply_of (entered_reply v (decided index v.kept asked.target rule)) ≡ judged_reply w asked rule
-  entered_is (Some rule) = refl
+  entered_is (Some forbids) = refl
   entered_is None = found_is (objects_of index asked.target) refl (kept_of (key_by (objects_of index asked.target) asked.target) w.delivering.kept)
 
   pending_is : length (map unplaced w.delivering.deliveries) + length (map row_in w.delivering.unfiled) ≡ pending w.delivering
@@ -236,7 +236,7 @@ module _ (w : World) (pass : ℕ) (asked : Asked) (place : Place) (moment : ℕ)
 
   denied_after : (rule : Rule) → edge_of (after_reply w (pass, Admit asked place moment) (reply.Denied (w.counts.delivered + 1) rule)) ≡ entered v pass (admission asked place moment None false) (decision.Deny rule)
   unfolding after_reply
-  denied_after rule = ap (λ (lists : List (Open Admission) × List Row). record v { deliveries = lists.0; delivered = w.counts.delivered + 1; unfiled = lists.1 })
+  denied_after forbids = ap (λ (lists : List (Open Admission) × List Row). record v { deliveries = lists.0; delivered = w.counts.delivered + 1; unfiled = lists.1 })
       (pair_is (map-append unplaced w.delivering.deliveries _) (same_rows w))
 
   full_after : (n : ℕ) → edge_of (after_reply w (pass, Admit asked place moment) (reply.Full n)) ≡ v
@@ -244,7 +244,7 @@ module _ (w : World) (pass : ℕ) (asked : Asked) (place : Place) (moment : ℕ)
   full_after n = ap (λ rows. record v { unfiled = rows }) (same_rows w)
 
   judged_after : IsPlaced w → (rule : Option Rule) → edge_of (after_reply w (pass, Admit asked place moment) (judged_reply w asked rule)) ≡ entered v pass (admission asked place moment None false) (decided index v.kept asked.target rule)
-  judged_after placed (Some rule) = denied_after rule
+  judged_after placed (Some forbids) = denied_after forbids
   judged_after placed None = found_after placed (kept_of (key_by (objects_of index asked.target) asked.target) w.delivering.kept)
 
   limited_after : (full many : Bool) (n : ℕ) (d : Decision) (r : Reply) → edge_of (after_reply w (pass, Admit asked place moment) r) ≡ entered v pass (admission asked place moment None false) d

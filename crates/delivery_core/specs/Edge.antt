@@ -1,6 +1,5 @@
 -- The side of the core that delivers, as its calls see it: what a history leaves of it, without positions.
 use Rattle.std.specs.Prelude.{ℕ, ◌+◌, ◌^◌, ◌-◌, Bool, true, false, min, nat_lt, ◌==◌, List, [], ◌∷◌, ◌++◌, length, map, None, Some, if◌then◌else◌}
-use Rattle.std.specs.List.{find}
 use Rattle.std.specs.Option.{option_and_then, option_map}
 use Rattle.std.specs.declared.option.Option.{Option}
 use Rattle.cdni_base.specs.Limits.{Bounds}
@@ -25,7 +24,7 @@ use Rattle.history.specs.World.{Kept}
 use Rattle.history.specs.declared.begun.Admission.{Admission}
 use Rattle.history.specs.declared.begun.Fetching.{Fetching}
 use Rattle.delivery_core.specs.Installed.{Seen, invalidated}
-use Rattle.delivery_core.specs.Open.{is_named, unnamed}
+use Rattle.delivery_core.specs.Open.{unnamed}
 use Rattle.delivery_core.specs.Refreshes.{Refreshing, first_noted, noted_of, with_starts}
 use Rattle.delivery_core.specs.Shelf.{is_gained, brought, struck, unhit}
 use Rattle.delivery_core.specs.declared.decision.Decision.{Decision}

@@ -1,5 +1,5 @@
 -- The installed metadata, without positions.
-use Rattle.std.specs.Prelude.{ℕ, List, None, Some, if◌then◌else◌}
+use Rattle.std.specs.Prelude.{ℕ, None, Some, if◌then◌else◌}
 use Rattle.std.specs.List.{list_any}
 use Rattle.std.specs.declared.option.Option.{Option}
 use Rattle.metadata_objects.specs.Tree.{TreeData}

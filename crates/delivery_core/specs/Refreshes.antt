@@ -1,5 +1,5 @@
 -- The refreshes that are open, and the starts since each began.
-use Rattle.std.specs.Prelude.{◌≡◌, ℕ, ◌+◌, ◌-◌, ◌≤◌, Bool, nat_lt, ◌||◌, List, [], ◌∷◌, ◌++◌, drop, length, map, find, None, Some, if◌then◌else◌}
+use Rattle.std.specs.Prelude.{ℕ, ◌+◌, ◌-◌, ◌≤◌, Bool, nat_lt, ◌||◌, List, [], ◌∷◌, ◌++◌, drop, length, map, find, if◌then◌else◌}
 use Rattle.std.specs.List.{list_any}
 use Rattle.std.specs.Option.{option_map}
 use Rattle.std.specs.declared.option.Option.{Option}

@@ -1,5 +1,5 @@
 -- What is kept of fetches, and the fetches that are open.
-use Rattle.std.specs.Prelude.{ℕ, ◌+◌, Bool, false, not, ◌||◌, List, ◌∷◌, [], ◌++◌, filter, map, None, Some, is_some}
+use Rattle.std.specs.Prelude.{ℕ, ◌+◌, Bool, false, not, nat_lt, ◌||◌, List, ◌∷◌, [], ◌++◌, filter, length, map, None, Some, is_some}
 use Rattle.std.specs.Option.{option_map}
 use Rattle.std.specs.declared.option.Option.{Option}
 use Rattle.object_cache.specs.declared.object.Object.{Object}
@@ -63,6 +63,11 @@ end_after s pass fetch outcome (Some flight) = record s {
 }
 
 -- ---- the start of a trigger
+
+-- it has a content URL, a content pattern or a ccid (RFC 8007, section 5.2.1)
+abbrev pub selects_content : Selection → Bool
+selects_content selection = (nat_lt 0 (length selection.content_urls)
+    || nat_lt 0 (length selection.content_patterns)) || nat_lt 0 (length selection.ccids)
 
 -- what its selection does not hit stays (RFC 8007, section 5.2.1)
 abbrev pub unhit : Selection → List Kept → List Kept

@@ -5,7 +5,7 @@ ghost use Rattle.std.specs.List.{find};
 ghost use Rattle.object_cache.specs.ObjectTable as objects;
 ghost use Rattle.history.specs.Kept.{kept_of, used, gained, with_gained};
 ghost use Rattle.delivery_core.specs.Open.{is_named, AreRising};
-ghost use Rattle.delivery_core.specs.Shelf.{kept_object, opened, end_reply, end_after, start_after, brought, is_gained, is_struck, struck, struck_flight};
+ghost use Rattle.delivery_core.specs.Shelf.{kept_object, opened, end_reply, end_after, start_after, brought, is_gained, is_struck, selects_content, struck, struck_flight};
 
 use crate::open::{Named, Open};
 use cdni_base::Key;
@@ -110,6 +110,9 @@ impl Shelf {
         ensures after { OnOk result (self.new ≡ start_after self.old selection.now) }
         ensures err { OnErr result (self.new ≡ self.old) }
     {
+        if !selects_content(selection) {
+            return Ok(());
+        }
         let mut flights = Row::new(alloc);
         flights.reserve(alloc, self.flights.len())?;
         self.table.drop_matching(alloc, selection)?;
@@ -134,6 +137,15 @@ impl Shelf {
             None => None,
         }
     }
+}
+
+// whether the selection selects content
+fn selects_content(selection: &Selection) -> bool
+    ensures { result ≡ selects_content selection.now }
+{
+    selection.content_urls.len() > 0
+        || selection.content_patterns.len() > 0
+        || selection.ccids.len() > 0
 }
 
 // moves all open fetches to an empty row, and marks those that the selection hits

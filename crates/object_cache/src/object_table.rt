@@ -88,11 +88,7 @@ impl ObjectTable {
     ///
     /// # Errors
     /// Want of memory. The table is then as before.
-    pub fn drop_matching(
-        &mut self,
-        alloc: Global,
-        selection: &Selection,
-    ) -> Result<(), AllocError>
+    pub fn drop_matching(&mut self, alloc: Global, selection: &Selection) -> Result<(), AllocError>
         ensures after { OnOk result (self.new ≡ record self.old { objects = unhit selection.now self.old.objects }) }
         ensures refused { OnErr result (self.new ≡ self.old) }
     {
@@ -181,12 +177,7 @@ fn empty_row(alloc: Global, row: &Row<Object>) -> Result<Row<Object>, AllocError
 }
 
 // moves the objects that the selection does not hit to the end of another row, and lowers the sum by the others
-fn move_unhit(
-    row: &mut Row<Object>,
-    rest: &mut Row<Object>,
-    sum: &mut u64,
-    selection: &Selection,
-)
+fn move_unhit(row: &mut Row<Object>, rest: &mut Row<Object>, sum: &mut u64, selection: &Selection)
     requires apart { AreApart rest.old.items row.old.items }
     requires places { rest.old.spare ≡ length row.old.items + row.old.spare }
     requires sum { sum.old ≡ total rest.old.items + total row.old.items }

@@ -1,4 +1,4 @@
-use Rattle.std.proofs.Common.{◌≡◌, ◌+◌, ◌-◌, ◌≤◌, drop, length, map, arith, sym, ap, ◌∙◌, subst, length-drop}
+use Rattle.std.proofs.Common.{◌≡◌, ◌+◌, ◌-◌, drop, length, map, arith, sym, ap, ◌∙◌, subst, length-drop}
 use Rattle.delivery_core.proofs.RefreshLemmas.{between_least, least_within, with_since_later}
 use Rattle.delivery_core.proofs.refreshes.forget.Goals as goal
 use Rattle.delivery_core.specs.Refreshes.{AreBetween, least_place, with_since}

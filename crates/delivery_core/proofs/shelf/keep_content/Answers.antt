@@ -1,4 +1,4 @@
-use Rattle.std.proofs.Common.{◌≡◌, ◌==◌, true, sym, ◌∙◌}
+use Rattle.std.proofs.Common.{sym, ◌∙◌}
 use Rattle.std.proofs.lemmas.Bool.{eq-eqb}
 use Rattle.delivery_core.proofs.ShelfLemmas.{brought_full, gained_full}
 use Rattle.delivery_core.proofs.shelf.keep_content.Goals as goal

@@ -1,4 +1,4 @@
-use Rattle.std.proofs.Common.{◌≡◌, ℕ, ◌<◌, [], ◌∷◌, ◌++◌, List, length, map, sym, ap, ◌∙◌, subst, arith, append_assoc}
+use Rattle.std.proofs.Common.{◌∷◌, ◌++◌, List, length, map, sym, ap, ◌∙◌, subst, arith, append_assoc}
 use Rattle.rows.specs.Row.{RowSeen}
 use Rattle.delivery_core.proofs.OpenLemmas.{none_named, up_to_push}
 use Rattle.delivery_core.proofs.shelf.move_struck.Goals as goal

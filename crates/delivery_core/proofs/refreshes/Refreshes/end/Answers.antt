@@ -1,4 +1,4 @@
-use Rattle.std.proofs.Common.{map, not, refl, sym, ap, ◌∙◌, arith}
+use Rattle.std.proofs.Common.{not, refl, sym, ap, arith}
 use Rattle.delivery_core.proofs.ListLemmas.{filter-map, find-map}
 use Rattle.delivery_core.proofs.OpenLemmas.{up_to_filter}
 use Rattle.delivery_core.proofs.RefreshLemmas.{between_filter, between_found, refreshes}

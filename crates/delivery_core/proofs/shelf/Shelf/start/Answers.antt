@@ -1,6 +1,6 @@
-use Rattle.std.proofs.Common.{map, ap, arith}
+use Rattle.std.proofs.Common.{map, sym, ap, ◌∙◌}
 use Rattle.std.proofs.lemmas.List.{length-map}
-use Rattle.delivery_core.proofs.ShelfLemmas.{shelf, struck_rising, struck_up_to, unhit_kept}
+use Rattle.delivery_core.proofs.ShelfLemmas.{shelf, start_none, struck_rising, struck_up_to, unhit_kept}
 use Rattle.delivery_core.proofs.shelf.Shelf.start.Goals as goal
 use Rattle.delivery_core.specs.Shelf.{struck}
 
@@ -19,3 +19,6 @@ returns-clause-after c =
     let i = c.self.inside in
     rw (← c.self.view_is, c.in_ok-drop_matching.ensures.after, c.move_struck.ensures)
     (ap (λ kept. shelf i.table.limit kept (map (struck c.args.selection.now) i.flights.items) i.fetched) (unhit_kept c.args.selection.now i.table.objects))
+
+pub returns-then-not-selects_content-clause-after : goal.returns-then-not-selects_content-clause-after
+returns-then-not-selects_content-clause-after c = start_none c.args.selection.now (sym c.selects_content.ensures ∙ c.if-not-selects_content.true) c.args.self.now

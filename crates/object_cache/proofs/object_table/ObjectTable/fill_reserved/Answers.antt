@@ -1,7 +1,7 @@
-use Rattle.std.proofs.Common.{◌≡◌, ℕ, ◌-◌, true, List, [], ◌∷◌, ◌++◌, ap, ◌∙◌, subst, sym, arith, rules}
+use Rattle.std.proofs.Common.{◌≡◌, ℕ, ◌-◌, true, List, [], ◌∷◌, ◌++◌, ap, ◌∙◌, arith, rules}
 use Rattle.rows.specs.Row.{RowSeen}
 use Rattle.object_cache.specs.declared.object.Object.{Object}
-use Rattle.object_cache.specs.ObjectTable.{AreApart, Kept, evicted, filled, is_filled, others}
+use Rattle.object_cache.specs.ObjectTable.{Kept, evicted, filled, is_filled, others}
 use Rattle.object_cache.proofs.TableLemmas.{kept, apart_filled, filled_small, filled_true}
 use Rattle.object_cache.proofs.object_table.ObjectTable.fill_reserved.Goals as goal
 

@@ -1,5 +1,5 @@
 -- What a request adds to the counts of the edge.
-use Rattle.std.proofs.Common.{◌≡◌, ℕ, ◌+◌, ◌≤◌, ◌==◌, Bool, true, false, cond, length, refl, arith, None, Some}
+use Rattle.std.proofs.Common.{◌≡◌, ℕ, ◌+◌, ◌≤◌, ◌==◌, Bool, true, false, cond, refl, arith, None, Some}
 use Rattle.std.proofs.lemmas.Bool.{eqb-false}
 use Rattle.cdni_base.specs.declared.asked.Asked.{Asked}
 use Rattle.history.specs.After.{admission, opened_by}

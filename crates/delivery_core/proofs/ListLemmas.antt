@@ -1,9 +1,8 @@
 -- Lists whose items are seen as others.
-use Rattle.std.proofs.Common.{◌≡◌, ℕ, ◌+◌, ◌≤◌, arith, length, length-append, Bool, true, false, cond, not, List, [], ◌∷◌, ◌++◌, map, None, Some, refl, sym, ap, ◌∙◌}
+use Rattle.std.proofs.Common.{◌≡◌, ℕ, ◌+◌, ◌≤◌, arith, length, length-append, Bool, true, false, cond, not, List, [], ◌∷◌, map, None, Some, refl, sym, ap, ◌∙◌}
 use Rattle.std.specs.List.{filter, find, sum_by}
 use Rattle.std.specs.Option.{option_map, option_to_list}
 use Rattle.std.specs.declared.option.Option.{Option}
-use Rattle.std.proofs.lemmas.List.{map-append}
 use Rattle.std.proofs.lemmas.List.Sums.{sum-map}
 use Rattle.std.specs.List.{sum}
 use Rattle.rows.specs.Row.{IsTakenOut}

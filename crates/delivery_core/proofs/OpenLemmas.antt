@@ -1,8 +1,8 @@
 -- What is open has numbers that were given, and a new number is none of them.
-use Rattle.std.proofs.Common.{◌≡◌, ℕ, ◌+◌, ◌<◌, ◌≤◌, Bool, true, false, cond, List, [], ◌∷◌, ◌++◌, None, Some, refl, sym, ap, ◌∙◌, arith, nat_eq, ◌&&◌}
+use Rattle.std.proofs.Common.{◌≡◌, ℕ, ◌<◌, ◌≤◌, Bool, true, false, cond, List, [], ◌∷◌, ◌++◌, None, Some, refl, ap, ◌∙◌, arith, nat_eq, ◌&&◌}
 use Rattle.std.specs.List.{filter, find}
-use Rattle.std.proofs.lemmas.Bool.{cond-false, ne_eqb, cases_Bool}
-use Rattle.delivery_core.specs.Open.{AreUpTo}
+use Rattle.std.proofs.lemmas.Bool.{ne_eqb}
+use Rattle.delivery_core.specs.Open.{AreRising, AreUpTo}
 use Rattle.delivery_core.specs.declared.open.Open.{Open}
 
 module _ {T : Type 0} where
@@ -26,3 +26,18 @@ module _ {T : Type 0} where
     | true ↦ (below.0, up_to_filter test last all below.1)
     | false ↦ up_to_filter test last all below.1
   ]
+
+  pub rising_lower : (lower low : ℕ) (all : List (Open T)) → AreRising low all → lower ≤ low → AreRising lower all
+  rising_lower lower low [] rising less = tt
+  rising_lower lower low (one ∷ all) rising less = (omega (arith, rising.0, less), rising.1)
+
+  pub rising_filter : (test : Open T → Bool) (low : ℕ) (all : List (Open T)) → AreRising low all → AreRising low (filter test all)
+  rising_filter test low [] rising = tt
+  rising_filter test low (one ∷ all) rising = elim (test one) as (λ t. AreRising low (cond t (one ∷ filter test all) (filter test all))) [
+    | true ↦ (rising.0, rising_filter test one.number all rising.1)
+    | false ↦ rising_lower low one.number (filter test all) (rising_filter test one.number all rising.1) (omega (arith, rising.0))
+  ]
+
+  pub rising_push : (low last : ℕ) (all : List (Open T)) (one : Open T) → AreRising low all → AreUpTo last all → low ≤ last → last < one.number → AreRising low (all ++ one ∷ [])
+  rising_push low last [] one rising below less over = (omega (arith, less, over), tt)
+  rising_push low last (x ∷ all) one rising below less over = (rising.0, rising_push x.number last all one rising.1 below.1 below.0 over)

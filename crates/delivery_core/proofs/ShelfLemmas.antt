@@ -1,6 +1,7 @@
 -- The table's objects as kept objects.
-use Rattle.std.proofs.Common.{◌≡◌, ℕ, ◌+◌, ◌≤◌, Bool, true, false, cond, not, nat_le, List, [], ◌∷◌, ◌++◌, length, map, None, Some, refl, sym, ap, ◌∙◌, ◌&&◌, ◌==◌}
-use Rattle.std.specs.List.{filter, find}
+use Rattle.std.proofs.Common.{◌≡◌, ℕ, Bool, true, false, cond, not, nat_le, nat_lt, List, [], ◌∷◌, ◌++◌, length, map, None, Some, refl, sym, ap, ◌∙◌, ◌&&◌, ◌||◌, ◌==◌, arith}
+use Rattle.std.specs.List.{filter, find, list_any}
+use Rattle.std.proofs.lemmas.Bool.{ltb-false, or_parts}
 use Rattle.std.specs.Option.{is_some, option_and_then, option_map, option_to_list}
 use Rattle.std.specs.declared.option.Option.{Option}
 use Rattle.std.proofs.lemmas.List.{map-append}
@@ -8,17 +9,20 @@ use Rattle.cdni_base.specs.Key.{KeyParts}
 use Rattle.rows.specs.Row.{moved}
 use Rattle.object_cache.specs.ObjectTable as objects
 use Rattle.object_cache.specs.declared.object.Object.{Object}
+use Rattle.trigger_command.specs.Selection.{hits, is_ccid, pattern_hits, url_hits}
+use Rattle.trigger_command.specs.declared.selection.Selection.{Selection}
 use Rattle.upstream_gate.specs.Got.{GotParts}
 use Rattle.upstream_gate.specs.declared.outcome.Outcome.TheVariants as outcome
-use Rattle.history.specs.Kept.{is_of, kept_of, others, used, total, size_of, evicted, put, is_newer, is_kept, kept_content, with_gained}
+use Rattle.history.specs.Kept.{is_of, kept_of, used, total, size_of, evicted, put, is_newer, is_kept, kept_content, with_gained}
 use Rattle.history.specs.World.{Kept}
 use Rattle.delivery_core.proofs.ListLemmas.{find-map, filter-map, option_to_list-map, sum_by-map}
-use Rattle.history.specs.declared.begun.Fetching.{Fetching}
-use Rattle.delivery_core.specs.Shelf.{ShelfView, kept_object, gain, is_gained, brought}
+use Rattle.delivery_core.specs.Open.{AreRising, AreUpTo}
+use Rattle.delivery_core.specs.Shelf.{ShelfView, kept_object, gain, is_gained, brought, selects_content, start_after, struck, unhit}
 use Rattle.delivery_core.specs.declared.open.Open.{Open}
+use Rattle.delivery_core.specs.declared.shelf.Flight.{Flight}
 
 -- a shelf with these
-abbrev pub shelf : ℕ → List Kept → List (Open Fetching) → ℕ → ShelfView
+abbrev pub shelf : ℕ → List Kept → List (Open Flight) → ℕ → ShelfView
 shelf limit kept fetches fetched = record { limit = limit; kept = kept; fetches = fetches; fetched = fetched }
 
 pub found_kept : (key : KeyParts) (os : List Object) → option_map kept_object (objects.kept_of key os) ≡ kept_of key (map kept_object os)
@@ -59,33 +63,89 @@ filled_is limit os o = ap (λ t. nat_le (length o.body) limit && not t) (newer_k
 -- ---- what an open fetch brought
 
 -- as an object of the table
-abbrev pub object_of : Open Fetching → GotParts → Object
-object_of flight got = record { key = flight.what.key; fetch = flight.number; ccid = flight.what.ccid; kind = got.kind; body = got.body }
+abbrev pub object_of : Open Flight → GotParts → Object
+object_of flight got = record { key = flight.what.fetching.key; fetch = flight.number; ccid = flight.what.fetching.ccid; kind = got.kind; body = got.body }
 
 and_true : (a : Bool) → (a && true) ≡ a
 and_true true = refl
 and_true false = refl
 
-module _ (limit : ℕ) (os : List Object) (flight : Open Fetching) (got : GotParts) (full : (got.status == 200) ≡ true) where
-  kept_is : is_kept limit false (map kept_object os) flight.number flight.what got ≡ objects.is_filled limit os (object_of flight got)
-  kept_is = and_true (nat_le (length got.body) limit && not (is_newer flight.number (kept_of flight.what.key (map kept_object os)))) ∙ sym (filled_is limit os (object_of flight got))
+module _ (limit : ℕ) (os : List Object) (flight : Open Flight) (got : GotParts) where
+  abbrev new : Kept
+  new = kept_object (object_of flight got)
 
-  gain_is : gain limit (map kept_object os) flight (outcome.Got got) ≡ cond (objects.is_filled limit os (object_of flight got)) (Some (kept_object (object_of flight got))) None
-  gain_is =
-      ap (λ t. option_and_then (kept_content limit false (map kept_object os) flight.number flight.what) (cond t (Some got) None)) full
-      ∙ ap (λ t. cond t (Some (kept_object (object_of flight got))) None) kept_is
+  abbrev fits : Bool
+  fits = nat_le (length got.body) limit && not (is_newer flight.number (kept_of flight.what.fetching.key (map kept_object os)))
 
-  some_by : (t : Bool) (one : Kept) → is_some (cond t (Some one) None) ≡ t
-  some_by true one = refl
-  some_by false one = refl
+  some_by : (t : Bool) → is_some (cond t (Some new) None) ≡ t
+  some_by true = refl
+  some_by false = refl
 
-  pub gained_full : is_gained limit (map kept_object os) flight (outcome.Got got) ≡ objects.is_filled limit os (object_of flight got)
-  gained_full = ap (λ (o : Option Kept). is_some o) gain_is ∙ some_by (objects.is_filled limit os (object_of flight got)) (kept_object (object_of flight got))
-
-  brought_by : (t : Bool) → with_gained limit (map kept_object os) (cond t (Some (kept_object (object_of flight got))) None)
-      ≡ map kept_object (cond t (objects.evicted limit (objects.others flight.what.key os ++ object_of flight got ∷ [])) os)
+  brought_by : (t : Bool) → with_gained limit (map kept_object os) (cond t (Some new) None)
+      ≡ map kept_object (cond t (objects.evicted limit (objects.others flight.what.fetching.key os ++ object_of flight got ∷ [])) os)
   brought_by true = sym (put_kept limit os (object_of flight got))
   brought_by false = refl
 
-  pub brought_full : brought limit (map kept_object os) flight (outcome.Got got) ≡ map kept_object (objects.filled limit os (object_of flight got))
-  brought_full = ap (with_gained limit (map kept_object os)) gain_is ∙ brought_by (objects.is_filled limit os (object_of flight got))
+  -- with status 200, and hit by no start
+  module _ (full : (got.status == 200) ≡ true) (unhit : flight.what.hit ≡ false) where
+    kept_is : is_kept limit flight.what.hit (map kept_object os) flight.number flight.what.fetching got ≡ objects.is_filled limit os (object_of flight got)
+    kept_is = ap (λ t. fits && not t) unhit ∙ and_true fits ∙ sym (filled_is limit os (object_of flight got))
+
+    gain_is : gain limit (map kept_object os) flight (outcome.Got got) ≡ cond (objects.is_filled limit os (object_of flight got)) (Some new) None
+    gain_is =
+        ap (λ t. option_and_then (kept_content limit flight.what.hit (map kept_object os) flight.number flight.what.fetching) (cond t (Some got) None)) full
+        ∙ ap (λ t. cond t (Some new) None) kept_is
+
+    pub gained_full : is_gained limit (map kept_object os) flight (outcome.Got got) ≡ objects.is_filled limit os (object_of flight got)
+    gained_full = ap (λ (o : Option Kept). is_some o) gain_is ∙ some_by (objects.is_filled limit os (object_of flight got))
+
+    pub brought_full : brought limit (map kept_object os) flight (outcome.Got got) ≡ map kept_object (objects.filled limit os (object_of flight got))
+    brought_full = ap (with_gained limit (map kept_object os)) gain_is ∙ brought_by (objects.is_filled limit os (object_of flight got))
+
+-- ---- the start of a trigger
+
+pub unhit_kept : (selection : Selection) (os : List Object) → map kept_object (objects.unhit selection os) ≡ unhit selection (map kept_object os)
+unhit_kept selection os = sym (filter-map kept_object (λ k. not (hits selection k.key k.ccid)) os)
+
+module _ (selection : Selection) where
+  pub struck_up_to : (last : ℕ) (all : List (Open Flight)) → AreUpTo last all → AreUpTo last (map (struck selection) all)
+  struck_up_to last [] below = tt
+  struck_up_to last (one ∷ all) below = (below.0, struck_up_to last all below.1)
+
+  pub struck_rising : (low : ℕ) (all : List (Open Flight)) → AreRising low all → AreRising low (map (struck selection) all)
+  struck_rising low [] rising = tt
+  struck_rising low (one ∷ all) rising = (rising.0, struck_rising one.number all rising.1)
+
+-- where a selection selects no content, it hits none
+empty_list : {A : Type 0} (xs : List A) → nat_lt 0 (length xs) ≡ false → xs ≡ []
+empty_list [] none = refl
+empty_list (x ∷ xs) none = let few = ltb-false 0 (length (x ∷ xs)) none in absurd (omega (arith, few))
+
+or_nothing : (t : Bool) → (t || false) ≡ t
+or_nothing true = refl
+or_nothing false = refl
+
+module _ (selection : Selection) (none : selects_content selection ≡ false) where
+  hits_none : (key : KeyParts) (ccid : Option (List ℕ)) → hits selection key ccid ≡ false
+  unfolding hits
+  hits_none key ccid =
+      let outer = or_parts (nat_lt 0 (length selection.content_urls) || nat_lt 0 (length selection.content_patterns)) (nat_lt 0 (length selection.ccids)) none in
+      let inner = or_parts (nat_lt 0 (length selection.content_urls)) (nat_lt 0 (length selection.content_patterns)) outer.0 in
+      ap (λ urls. (list_any (url_hits key) urls || list_any (pattern_hits key) selection.content_patterns) || list_any (is_ccid ccid) selection.ccids) (empty_list selection.content_urls inner.0)
+      ∙ ap (λ patterns. list_any (pattern_hits key) patterns || list_any (is_ccid ccid) selection.ccids) (empty_list selection.content_patterns inner.1)
+      ∙ ap (λ ccids. list_any (is_ccid ccid) ccids) (empty_list selection.ccids outer.1)
+
+  unhit_all : (all : List Kept) → unhit selection all ≡ all
+  unhit_all [] = refl
+  unhit_all (one ∷ all) = ap (λ t. cond (not t) (one ∷ unhit selection all) (unhit selection all)) (hits_none one.key one.ccid) ∙ ap (λ rest. one ∷ rest) (unhit_all all)
+
+  struck_none : (all : List (Open Flight)) → map (struck selection) all ≡ all
+  struck_none [] = refl
+  struck_none (one ∷ all) =
+      ap (λ t. record one { what = record one.what { hit = one.what.hit || t } } ∷ map (struck selection) all) (hits_none one.what.fetching.key one.what.fetching.ccid)
+      ∙ ap (λ t. record one { what = record one.what { hit = t } } ∷ map (struck selection) all) (or_nothing one.what.hit) ∙ ap (λ rest. one ∷ rest) (struck_none all)
+
+  -- and such a start changes nothing of the shelf
+  pub start_none : (s : ShelfView) → s ≡ start_after s selection
+  start_none s =
+      sym (ap (λ kept. shelf s.limit kept (map (struck selection) s.fetches) s.fetched) (unhit_all s.kept) ∙ ap (λ fetches. shelf s.limit s.kept fetches s.fetched) (struck_none s.fetches))

@@ -1,6 +1,5 @@
 -- The side of the core that delivers, as its calls see it: what a history leaves of it, without positions.
 use Rattle.std.specs.Prelude.{ℕ, ◌+◌, ◌^◌, ◌-◌, Bool, true, false, min, nat_lt, ◌==◌, List, [], ◌∷◌, ◌++◌, length, map, None, Some, if◌then◌else◌}
-use Rattle.std.specs.List.{find}
 use Rattle.std.specs.Option.{option_and_then, option_map}
 use Rattle.std.specs.declared.option.Option.{Option}
 use Rattle.cdni_base.specs.Limits.{Bounds}
@@ -13,17 +12,21 @@ use Rattle.location_acl.specs.declared.footprint.Place.{Place}
 use Rattle.metadata_objects.specs.LevelData.{Index}
 use Rattle.metadata_objects.specs.Tree.{TreeData}
 use Rattle.metadata_objects.specs.declared.generic.Generic.{Generic}
+use Rattle.targets.specs.declared.endpoint.Endpoint.{Endpoint}
 use Rattle.targets.specs.declared.target.Target.{Target}
+use Rattle.trigger_command.specs.declared.selection.Selection.{Selection}
 use Rattle.upstream_gate.specs.declared.outcome.Outcome.{Outcome}
 use Rattle.verdict.specs.Plan.{plan_of}
 use Rattle.history.specs.After.{admission}
 use Rattle.history.specs.Kept.{kept_of, used}
-use Rattle.history.specs.Metadata.{forbidden, key_by, objects_of}
+use Rattle.history.specs.Metadata.{ccid_at, forbidden, is_skipped, key_at, key_by, objects_of, plan_at}
 use Rattle.history.specs.World.{Kept}
 use Rattle.history.specs.declared.begun.Admission.{Admission}
 use Rattle.history.specs.declared.begun.Fetching.{Fetching}
-use Rattle.delivery_core.specs.Open.{is_named, unnamed}
-use Rattle.delivery_core.specs.Shelf.{is_gained, brought}
+use Rattle.delivery_core.specs.Installed.{Seen, invalidated}
+use Rattle.delivery_core.specs.Open.{unnamed}
+use Rattle.delivery_core.specs.Refreshes.{Refreshing, first_noted, noted_of, with_starts}
+use Rattle.delivery_core.specs.Shelf.{is_gained, brought, struck, unhit}
 use Rattle.delivery_core.specs.declared.decision.Decision.{Decision}
 use Rattle.delivery_core.specs.declared.decision.Decision.TheVariants as decision
 use Rattle.delivery_core.specs.declared.open.Open.{Open}
@@ -31,31 +34,32 @@ use Rattle.delivery_core.specs.declared.results.Admitted.{Admitted}
 use Rattle.delivery_core.specs.declared.results.Admitted.TheVariants as admitted
 use Rattle.delivery_core.specs.declared.results.Began.{Began}
 use Rattle.delivery_core.specs.declared.results.Began.TheVariants as began
+use Rattle.delivery_core.specs.declared.results.Planned.{Planned}
 use Rattle.delivery_core.specs.declared.results.RefreshEnded.{RefreshEnded}
 use Rattle.delivery_core.specs.declared.results.RefreshEnded.TheVariants as ended_as
-
--- the installed metadata, its refresh, and the moment at which that began
-pub record Seen : Type 0 where
-  pub tree : TreeData
-  pub refresh : ℕ
-  pub moment : ℕ
+use Rattle.delivery_core.specs.declared.shelf.Flight.{Flight}
 
 pub record EdgeView : Type 0 where
   pub limits : Bounds
   pub tree : Option Seen
   pub kept : List Kept  -- the least recently used first
-  pub fetches : List (Open Fetching)  -- those that are open, in order
+  pub fetches : List (Open Flight)  -- those that are open, in order
   pub deliveries : List (Open Admission)  -- those that are open, in order
-  pub refreshes : List (Open ℕ)  -- those that are open, with the moments at which they began, in order
+  pub refreshes : List (Open Refreshing)  -- those that are open, with the moments at which they began, in order
   pub unfiled : List Row  -- rows that no log file has, in order
   pub fetched : ℕ  -- fetches that were begun
   pub delivered : ℕ  -- deliveries that were begun
   pub logged : ℕ  -- rows that there ever were
   pub refreshed : ℕ  -- refreshes that were begun
+  pub started : ℕ  -- starts that there were
   pub installed : ℕ  -- installations
 
 abbrev pub index_of : EdgeView → Option Index
 index_of v = option_map (λ seen. seen.tree.index) v.tree
+
+-- the first trigger that has made the installed metadata invalid
+abbrev pub invalid_of : EdgeView → Option ℕ
+invalid_of v = option_and_then (λ seen. seen.invalid) v.tree
 
 -- ---- a request
 
@@ -75,7 +79,7 @@ decided index kept target None = allowed kept (objects_of index target) target
 -- denied by the first rule that forbids, a hit, or a miss
 abbrev pub decision_of : EdgeView → Asked → Place → ℕ → Decision
 decision_of v asked place moment = decided (index_of v) v.kept asked.target
-    (forbidden (index_of v) None asked place moment)
+    (forbidden (index_of v) (invalid_of v) asked place moment)
 
 -- how many deliveries are open and rows unfiled, together
 abbrev pub pending : EdgeView → ℕ
@@ -118,10 +122,18 @@ with_hit v pass what key = record v {
   delivered = v.delivered + 1;
 }
 
+-- one fetch more, that no start has hit
+abbrev pub with_flight : EdgeView → ℕ → Fetching → List (Open Flight)
+with_flight v pass fetching = v.fetches ++ record {
+  number = v.fetched + 1;
+  pass = pass;
+  what = record { fetching = fetching; hit = false };
+} ∷ []
+
 -- a delivery and its fetch begin
 abbrev pub with_miss : EdgeView → ℕ → Admission → Fetching → EdgeView
 with_miss v pass what fetching = record v {
-  fetches = v.fetches ++ record { number = v.fetched + 1; pass = pass; what = fetching } ∷ [];
+  fetches = with_flight v pass fetching;
   fetched = v.fetched + 1;
   deliveries = with_delivery v pass what;
   delivered = v.delivered + 1;
@@ -144,10 +156,10 @@ admit_after v pass opened asked place moment = admit_after_by v pass (admission 
 
 -- ---- the end of a fetch
 
-abbrev pub fetch_end_reply : EdgeView → Outcome → Option (Open Fetching) → Option Bool
+abbrev pub fetch_end_reply : EdgeView → Outcome → Option (Open Flight) → Option Bool
 fetch_end_reply v outcome flight = option_map (λ one. is_gained v.limits.cache v.kept one outcome) flight
 
-abbrev pub fetch_end_after : EdgeView → ℕ → ℕ → Outcome → Option (Open Fetching) → EdgeView
+abbrev pub fetch_end_after : EdgeView → ℕ → ℕ → Outcome → Option (Open Flight) → EdgeView
 fetch_end_after v pass fetch outcome None = v
 fetch_end_after v pass fetch outcome (Some flight) = record v {
   fetches = unnamed fetch pass v.fetches;
@@ -170,10 +182,14 @@ finish_after v pass delivery row (Some one) = record v {
 
 -- ---- refreshes
 
--- before the begin of the installed refresh and the period, when the next one is due
-abbrev pub next_after : ℕ → ℕ → Seen → Option ℕ
-next_after period moment seen = if nat_lt moment (seen.moment + period)
+-- where the installed metadata is valid: before the begin of its refresh and the period, when the next one is due
+abbrev pub next_by : ℕ → ℕ → Seen → Option ℕ → Option ℕ
+next_by period moment seen (Some trigger) = None
+next_by period moment seen None = if nat_lt moment (seen.moment + period)
     then Some (min (seen.moment + period) (2 ^ 64 - 1)) else None
+
+abbrev pub next_after : ℕ → ℕ → Seen → Option ℕ
+next_after period moment seen = next_by period moment seen seen.invalid
 
 abbrev pub next_due : EdgeView → ℕ → Option ℕ
 next_due v moment = option_and_then (next_after v.limits.period moment) v.tree
@@ -186,7 +202,11 @@ begin_reply v false (Some next) = began.NotDue next
 
 abbrev pub begin_after : EdgeView → ℕ → ℕ → Began → EdgeView
 begin_after v pass moment (began.Due refresh) = record v {
-  refreshes = v.refreshes ++ record { number = refresh; pass = pass; what = moment } ∷ [];
+  refreshes = v.refreshes ++ record {
+    number = refresh;
+    pass = pass;
+    what = record { moment = moment; since = [] };
+  } ∷ [];
   refreshed = refresh;
 }
 begin_after v pass moment (began.NotDue next) = v
@@ -202,14 +222,22 @@ abbrev pub install_reply : EdgeView → Option ℕ → RefreshEnded
 install_reply v (Some refresh) = ended_as.Older refresh
 install_reply v None = ended_as.Installed (v.installed + 1)
 
-abbrev pub refresh_end_reply : EdgeView → ℕ → Option TreeData → Option (Open ℕ) → RefreshEnded
+-- stale by the first trigger since the refresh began that hits one of the documents
+abbrev pub fresh_reply : EdgeView → ℕ → Option ℕ → RefreshEnded
+fresh_reply v refresh (Some trigger) = ended_as.Stale trigger
+fresh_reply v refresh None = install_reply v (newer v refresh)
+
+abbrev pub brought_reply : EdgeView → ℕ → TreeData → Refreshing → RefreshEnded
+brought_reply v refresh tree begun = fresh_reply v refresh (first_noted tree.resources begun.since)
+
+abbrev pub refresh_end_reply : EdgeView → ℕ → Option TreeData → Option (Open Refreshing) → RefreshEnded
 refresh_end_reply v refresh tree None = ended_as.NotOpen
 refresh_end_reply v refresh None (Some begun) = ended_as.Failed
-refresh_end_reply v refresh (Some tree) (Some begun) = install_reply v (newer v refresh)
+refresh_end_reply v refresh (Some tree) (Some begun) = brought_reply v refresh tree begun.what
 
 abbrev pub install_after : EdgeView → ℕ → TreeData → ℕ → RefreshEnded → EdgeView
 install_after v refresh tree moment (ended_as.Installed generation) = record v {
-  tree = Some (record { tree = tree; refresh = refresh; moment = moment });
+  tree = Some (record { tree = tree; refresh = refresh; moment = moment; invalid = None });
   installed = generation;
 }
 install_after v refresh tree moment answer = v
@@ -218,11 +246,48 @@ install_after v refresh tree moment answer = v
 abbrev pub without_refresh : EdgeView → ℕ → ℕ → EdgeView
 without_refresh v refresh pass = record v { refreshes = unnamed refresh pass v.refreshes }
 
-abbrev pub refresh_end_after : EdgeView → ℕ → ℕ → Option TreeData → Option (Open ℕ) → EdgeView
+abbrev pub refresh_end_after : EdgeView → ℕ → ℕ → Option TreeData → Option (Open Refreshing) → EdgeView
 refresh_end_after v pass refresh tree None = v
 refresh_end_after v pass refresh None (Some begun) = without_refresh v refresh pass
-refresh_end_after v pass refresh (Some tree) (Some begun) =
-    install_after (without_refresh v refresh pass) refresh tree begun.what (install_reply v (newer v refresh))
+refresh_end_after v pass refresh (Some tree) (Some begun) = install_after (without_refresh v refresh pass) refresh tree
+    begun.what.moment (brought_reply v refresh tree begun.what)
+
+-- the keys of the documents of which metadata was made
+abbrev pub resources_of : Option TreeData → List KeyParts
+resources_of None = []
+resources_of (Some tree) = tree.resources
+
+-- ---- triggers
+
+-- an invalidate or a purge becomes active
+abbrev pub start_after : EdgeView → ℕ → Selection → EdgeView
+start_after v trigger selection = record v {
+  tree = option_map (invalidated trigger selection) v.tree;
+  kept = unhit selection v.kept;
+  fetches = map (struck selection) v.fetches;
+  refreshes = map (with_starts (noted_of trigger selection)) v.refreshes;
+  started = v.started + 1;
+}
+
+-- a URL that a trigger would fetch is skipped
+abbrev pub skips : EdgeView → Target → Bool
+skips v url = is_skipped (index_of v) (invalid_of v) url
+
+-- what its fetch has to bring, and from where
+abbrev pub sourced : EdgeView → Target → Option (Fetching × List Endpoint)
+sourced v url = if skips v url then None
+    else Some (record { key = key_at (index_of v) url; ccid = ccid_at (index_of v) url }, plan_at (index_of v) url)
+
+abbrev pub plan_reply : EdgeView → Target → Option Planned
+plan_reply v url = option_map (λ found. record { fetch = v.fetched + 1; plan = found.1 }) (sourced v url)
+
+abbrev pub plan_after_by : EdgeView → ℕ → Option (Fetching × List Endpoint) → EdgeView
+plan_after_by v pass None = v
+plan_after_by v pass (Some found) = record v { fetches = with_flight v pass found.0; fetched = v.fetched + 1 }
+
+-- its fetch begins, unless it is skipped
+abbrev pub plan_after : EdgeView → ℕ → Target → EdgeView
+plan_after v pass url = plan_after_by v pass (sourced v url)
 
 -- ---- the empty edge
 
@@ -239,5 +304,6 @@ empty limits = record {
   delivered = 0;
   logged = 0;
   refreshed = 0;
+  started = 0;
   installed = 0;
 }

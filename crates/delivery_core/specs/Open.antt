@@ -1,6 +1,5 @@
 -- What passes began under numbers.
-use Rattle.std.specs.Prelude.{ℕ, ◌≤◌, Bool, not, ◌==◌, ◌&&◌, List, [], ◌∷◌, filter}
-use Rattle.history.specs.World.{Begun}
+use Rattle.std.specs.Prelude.{ℕ, ◌<◌, ◌≤◌, Bool, not, ◌==◌, ◌&&◌, List, [], ◌∷◌, filter}
 use Rattle.delivery_core.specs.declared.open.Open.{Open}
 
 module _ {T : Type 0} where
@@ -16,3 +15,8 @@ module _ {T : Type 0} where
   abbrev pub AreUpTo : ℕ → List (Open T) → Type 0
   AreUpTo last [] = Unit {0}
   AreUpTo last (one ∷ others) = (one.number ≤ last) × AreUpTo last others
+
+  -- their numbers rise, from above this one on
+  abbrev pub AreRising : ℕ → List (Open T) → Type 0
+  AreRising low [] = Unit {0}
+  AreRising low (one ∷ others) = (low < one.number) × AreRising one.number others

@@ -1,19 +1,20 @@
 //! What is decided of a request by the metadata and by what is kept.
 
-ghost use Rattle.std.specs.Prelude.{◌≡◌, IfOk, option_map};
+ghost use Rattle.std.specs.Prelude.{◌≡◌, IfOk, option_map, None};
 ghost use Rattle.metadata_objects.specs.LevelData.{index_view};
 ghost use Rattle.inheritance.specs.Held.{ccid_of};
 ghost use Rattle.history.specs.Metadata.{is_served, key_by};
-ghost use Rattle.delivery_core.specs.Decision.{IsJudged, IsJudgedBy};
+ghost use Rattle.delivery_core.specs.Decision.{IsJudged, IsJudgedBy, effective_at, unskipped_plan};
 
 use cdni_base::{
     Asked, Body, EndpointList, Ignored, Key, Moment, Rule, Target, Text, TypeName, url_key,
 };
+use history::Fetching;
 use inheritance::{Effective, effective};
 use location_acl::Place;
 use metadata_objects::HostIndex;
 use std::alloc::{AllocError, Global};
-use verdict::{Verdict, judge};
+use verdict::{Verdict, judge, plan};
 
 /// What becomes of a request, and the key and collection of its content.
 #[derive(Drop)]
@@ -53,7 +54,7 @@ pub(crate) enum Judged<'t> {
     Forbidden(Rule),
 }
 
-/// Whether the installed metadata allows the request.
+/// Whether the installed metadata allows the request. It allows none where a trigger has made it invalid.
 ///
 /// # Errors
 /// Want of memory.
@@ -61,18 +62,19 @@ pub(crate) enum Judged<'t> {
 pub(crate) fn judge_request<'t>(
     alloc: Global,
     index: Option<&'t HostIndex>,
+    invalid: Option<u64>,
     asked: &Asked,
     place: &Place,
     moment: Moment,
 ) -> Result<Judged<'t>, AllocError>
     ensures { IfOk result (λ judged. IsJudged (option_map (λ i. index_view i.now) index.entry)
-        asked.now place.now moment judged) }
+        invalid asked.now place.now moment judged) }
 {
     if !is_served(&asked.method) {
         return Ok(Judged::Forbidden(Rule::Method));
     }
     match index {
-        Some(index) => judge_by(alloc, index, asked, place, moment),
+        Some(index) => judge_by(alloc, index, invalid, asked, place, moment),
         None => Ok(Judged::Forbidden(Rule::NoMetadata)),
     }
 }
@@ -88,12 +90,16 @@ fn is_served(method: &Text) -> bool
 fn judge_by<'t>(
     alloc: Global,
     index: &'t HostIndex,
+    invalid: Option<u64>,
     asked: &Asked,
     place: &Place,
     moment: Moment,
 ) -> Result<Judged<'t>, AllocError>
-    ensures { IfOk result (λ judged. IsJudgedBy (index_view index.now) asked.now place.now moment judged) }
+    ensures { IfOk result (λ judged. IsJudgedBy (index_view index.now) invalid asked.now place.now moment judged) }
 {
+    if let Some(trigger) = invalid {
+        return Ok(Judged::Forbidden(Rule::MetadataInvalid { trigger }));
+    }
     let Some(effective) = effective(alloc, index, &asked.target)? else {
         return Ok(Judged::Forbidden(Rule::NoHost));
     };
@@ -103,15 +109,66 @@ fn judge_by<'t>(
     }
 }
 
-/// The cache key of a target by its effective metadata.
+/// What a fetch of the target brings is kept under this key, and is of this collection, by its effective metadata.
 ///
 /// # Errors
 /// Want of memory.
-pub(crate) fn key_by(
+pub(crate) fn fetching_by(
     alloc: Global,
     effective: &Effective,
     target: &Target,
-) -> Result<Key, AllocError>
+) -> Result<Fetching, AllocError>
+    ensures { IfOk result (λ what. what ≡ record { key = key_by effective.now target.now; ccid = ccid_of effective.now }) }
+{
+    Ok(Fetching {
+        key: key_by(alloc, effective, target)?,
+        ccid: ccid_by(effective)?,
+    })
+}
+
+/// The effective metadata of a URL that a trigger would fetch, where valid metadata is installed and a HostMatch matches.
+///
+/// # Errors
+/// Want of memory.
+pub(crate) fn effective_at<'t>(
+    alloc: Global,
+    index: Option<&'t HostIndex>,
+    invalid: Option<u64>,
+    url: &Target,
+) -> Result<Option<Effective<'t>>, AllocError>
+    ensures { IfOk result (λ found. found
+        ≡ effective_at (option_map (λ i. index_view i.now) index.entry) invalid url.now) }
+{
+    match (index, invalid) {
+        (Some(index), None) => effective(alloc, index, url),
+        _ => Ok(None),
+    }
+}
+
+/// The endpoints from which a trigger would fetch a URL of this effective metadata, in order; `None` where the URL is
+/// skipped.
+///
+/// # Errors
+/// Want of memory.
+pub(crate) fn unskipped_plan(
+    alloc: Global,
+    effective: &Effective,
+) -> Result<Option<EndpointList>, AllocError>
+    ensures { IfOk result (λ plan. plan ≡ unskipped_plan effective.now) }
+{
+    if effective.unenforceable().is_some() {
+        return Ok(None);
+    }
+    let plan = plan(alloc, effective)?;
+    if plan.len() == 0 {
+        Ok(None)
+    } else {
+        Ok(Some(plan))
+    }
+}
+
+// the cache key of a target by its effective metadata
+fn key_by(alloc: Global, effective: &Effective, target: &Target) -> Result<Key, AllocError>
     ensures { IfOk result (λ key. key ≡ key_by effective.now target.now) }
 {
     match effective.ignored() {
@@ -120,11 +177,8 @@ pub(crate) fn key_by(
     }
 }
 
-/// A copy of the collection by the effective metadata.
-///
-/// # Errors
-/// Want of memory.
-pub(crate) fn ccid_by(_alloc: Global, effective: &Effective) -> Result<Option<Text>, AllocError>
+// a copy of the collection by the effective metadata
+fn ccid_by(effective: &Effective) -> Result<Option<Text>, AllocError>
     ensures { IfOk result (λ ccid. ccid ≡ ccid_of effective.now) }
 {
     match effective.ccid() {

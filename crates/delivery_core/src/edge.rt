@@ -5,53 +5,48 @@ ghost use Rattle.std.specs.List.{find};
 ghost use Rattle.history.specs.After.{admission, is_secure, row_of};
 ghost use Rattle.metadata_objects.specs.LevelData.{index_view};
 ghost use Rattle.metadata_objects.specs.Tree.{tree_view};
-ghost use Rattle.delivery_core.specs.Open.{is_named, AreUpTo};
-ghost use Rattle.delivery_core.specs.Edge.{allowed, of_collection};
+ghost use Rattle.delivery_core.specs.Open.{is_named};
+ghost use Rattle.delivery_core.specs.Refreshes.{end_reply};
+ghost use Rattle.delivery_core.specs.Edge.{allowed, of_collection, resources_of};
 
-use crate::decision::{Decision, Found, Judged, ccid_by, judge_request, key_by};
-use crate::open::{Named, Open};
+use crate::decision::{
+    Decision, Found, Judged, effective_at, fetching_by, judge_request, unskipped_plan,
+};
+use crate::installed::Installed;
 use crate::records::{Ending, Records};
-use crate::results::{Admitted, Began, RefreshEnded};
+use crate::refreshes::{Ended, Refreshes};
+use crate::results::{Admitted, Began, Planned, RefreshEnded};
 use crate::shelf::Shelf;
 use cdni_base::{Asked, EndpointList, Key, Limits, Moment, Protocol, Rule, Target, Text};
 use cdni_log::RowList;
 use history::{Admission, Fetching};
 use inheritance::Effective;
 use location_acl::Place;
-use metadata_objects::Tree;
+use metadata_objects::{HostIndex, Tree};
 use object_cache::Object;
-use rows::Row;
 use std::alloc::{AllocError, Global};
 use std::marker::Model;
+use trigger_command::Selection;
 use upstream_gate::Outcome;
 use verdict::plan;
 
-#[derive(Drop)]
-pub(crate) struct Installed {
-    tree: Tree,
-    refresh: u64,
-    moment: Moment,
-}
-
 /// The installed metadata, what is kept of fetches, the deliveries, fetches and refreshes that are open, and the rows of
-/// finished deliveries that no log file has. It is seen as what a history leaves of these, without positions. Each call takes constant time on average, whatever is kept and
-/// open, but for what the metadata of one target takes and the objects that leave.
+/// finished deliveries that no log file has. It is seen as what a history leaves of these, without positions. Each call
+/// takes constant time on average, whatever is kept and open, but for what the metadata of one target takes and the objects
+/// that leave; the start of a trigger goes through what is kept and open.
 #[derive(Drop)]
 pub struct Edge {
     limits: Limits,
     installed: Option<Installed>,
     shelf: Shelf,
     records: Records,
-    refreshes: Row<Open<Moment>>,
-    refreshed: u64,
+    refreshes: Refreshes,
     installations: u64,
 }
 
 impl Model for Edge {
-    ghost use Rattle.std.specs.Prelude.{◌+◌, ◌≤◌, ◌≡◌, length, option_map};
-    ghost use Rattle.metadata_objects.specs.Tree.{tree_view};
+    ghost use Rattle.std.specs.Prelude.{◌+◌, ◌≤◌, ◌≡◌, length};
     ghost use Rattle.delivery_core.specs.Edge.{EdgeView};
-    ghost use Rattle.delivery_core.specs.Open.{AreUpTo};
 
     ghost Value = { EdgeView };
 
@@ -68,25 +63,26 @@ impl Model for Edge {
 
     ghost view = { λ e. record {
       limits = e.limits;
-      tree = option_map (λ i. record { tree = tree_view i.tree; refresh = i.refresh; moment = i.moment }) e.installed;
+      tree = e.installed;
       kept = e.shelf.kept;
       fetches = e.shelf.fetches;
       deliveries = e.records.deliveries;
-      refreshes = e.refreshes.items;
+      refreshes = e.refreshes.refreshes;
       unfiled = e.records.unfiled;
       fetched = e.shelf.fetched;
       delivered = e.records.delivered;
       logged = e.records.logged;
-      refreshed = e.refreshed;
+      refreshed = e.refreshes.refreshed;
+      started = e.refreshes.started;
       installed = e.installations;
     } };
 
-    ghost invariant = { λ e. (e.shelf.limit ≡ e.limits.cache) × AreUpTo e.refreshed e.refreshes.items
-        × (e.installations + length e.refreshes.items ≤ e.refreshed) };
+    ghost invariant = { λ e. (e.shelf.limit ≡ e.limits.cache)
+        × (e.installations + length e.refreshes.refreshes ≤ e.refreshes.refreshed) };
 }
 
 impl Edge {
-    ghost use Rattle.delivery_core.specs.Edge.{EdgeView, empty, index_of, full_count, decision_of, admit_reply, admit_after, entered_reply, entered, with_denial, with_hit, with_miss, fetch_end_reply, fetch_end_after, finish_reply, finish_after, next_due, begin_reply, begin_after, newer, install_reply, install_after, without_refresh, refresh_end_reply, refresh_end_after};
+    ghost use Rattle.delivery_core.specs.Edge.{EdgeView, empty, index_of, invalid_of, full_count, decision_of, admit_reply, admit_after, entered_reply, entered, with_denial, with_hit, with_miss, fetch_end_reply, fetch_end_after, finish_reply, finish_after, next_due, begin_reply, begin_after, newer, install_reply, install_after, without_refresh, refresh_end_reply, refresh_end_after, start_after, skips, plan_reply, plan_after, sourced};
 
     /// An edge with nothing installed, kept or open.
     ///
@@ -100,8 +96,7 @@ impl Edge {
             installed: None,
             shelf: Shelf::new(alloc, limits.cache)?,
             records: Records::new(alloc),
-            refreshes: Row::new(alloc),
-            refreshed: 0,
+            refreshes: Refreshes::new(alloc)?,
             installations: 0,
         })
     }
@@ -160,15 +155,31 @@ impl Edge {
     ) -> Result<Decision, AllocError>
         ensures { IfOk result (λ decision. decision ≡ decision_of self.now asked.now place.now moment) }
     {
-        let index = self
-            .installed
-            .as_ref()
-            .map(|installed| &installed.tree.index);
-        match judge_request(alloc, index, asked, place, moment)? {
+        match judge_request(alloc, self.index(), self.invalid(), asked, place, moment)? {
             Judged::Forbidden(rule) => Ok(Decision::Deny { rule }),
             Judged::Allowed(effective) => {
                 decide_allowed(alloc, &self.shelf, &effective, &asked.target)
             },
+        }
+    }
+
+    // the installed metadata
+    fn index(&self) -> Option<&HostIndex>
+        ensures { option_map (λ i. index_view i.now) result ≡ index_of self.now }
+    {
+        match &self.installed {
+            Some(installed) => Some(installed.index()),
+            None => None,
+        }
+    }
+
+    // the first trigger that has made it invalid
+    fn invalid(&self) -> Option<u64>
+        ensures { result ≡ invalid_of self.now }
+    {
+        match &self.installed {
+            Some(installed) => installed.invalid(),
+            None => None,
         }
     }
 
@@ -327,16 +338,20 @@ impl Edge {
         self.limits
     }
 
-    /// The moment at which the next refresh is due, where that is later than this one and nothing is forced.
+    /// The moment at which the next refresh is due, where that is later than this one, valid metadata is installed and
+    /// nothing is forced.
     pub fn not_due(&self, moment: Moment) -> Option<Moment>
         ensures { result ≡ next_due self.now moment }
     {
         let Some(installed) = &self.installed else {
             return None;
         };
-        let next = installed.moment as u128 + self.limits.period as u128;
+        if installed.invalid().is_some() {
+            return None;
+        }
+        let next = installed.moment() as u128 + self.limits.period as u128;
         if (moment as u128) < next {
-            Some(installed.moment.saturating_add(self.limits.period))
+            Some(installed.moment().saturating_add(self.limits.period))
         } else {
             None
         }
@@ -363,64 +378,51 @@ impl Edge {
                 return Ok(Began::NotDue { next });
             }
         }
-        self.refreshes.reserve(alloc, 1)?;
-        let refresh = self.refreshed + 1;
-        self.refreshes.push(Open {
-            number: refresh,
-            pass,
-            what: moment,
-        });
-        self.refreshed = refresh;
+        let refresh = self.refreshes.begin(alloc, pass, moment)?;
         Ok(Began::Due { refresh })
     }
 
-    /// Ends the refresh of this number, if this pass began it, and installs its metadata, where none of a later refresh
-    /// is installed. It takes no memory.
+    /// Ends the refresh of this number, if this pass began it, and installs its metadata, where no trigger that was
+    /// started since it began hits one of its documents, and none of a later refresh is installed. It takes no memory.
     pub fn refresh_end(&mut self, pass: u32, refresh: u64, tree: Option<Tree>) -> RefreshEnded
         ensures reply { result ≡ refresh_end_reply self.old refresh (option_map tree_view tree)
             (find (is_named refresh pass) self.old.refreshes) }
         ensures after { self.new ≡ refresh_end_after self.old pass refresh (option_map tree_view tree)
             (find (is_named refresh pass) self.old.refreshes) }
     {
-        let Some(moment) = self.end_open(pass, refresh) else {
+        let Some(ended) = self.end_open(pass, refresh, resources_of(&tree)) else {
             return RefreshEnded::NotOpen;
         };
-        match tree {
-            Some(tree) => self.install(refresh, tree, moment),
-            None => RefreshEnded::Failed,
+        let Some(tree) = tree else {
+            return RefreshEnded::Failed;
+        };
+        match ended.stale {
+            Some(trigger) => RefreshEnded::Stale { trigger },
+            None => self.install(refresh, tree, ended.moment),
         }
     }
 
-    // ends the open refresh of this number, if this pass began it, and tells when that was
-    fn end_open(&mut self, pass: u32, refresh: u64) -> Option<Moment>
-        ensures found { result ≡ option_map (λ one. one.what) (find (is_named refresh pass) self.old.refreshes) }
+    // ends the open refresh of this number, if this pass began it, which has brought these documents
+    fn end_open(&mut self, pass: u32, refresh: u64, resources: &[Key]) -> Option<Ended>
+        ensures found { result ≡ end_reply resources.now (find (is_named refresh pass) self.old.refreshes) }
         ensures after { MatchOption result (self.new ≡ self.old) (λ _. self.new ≡ without_refresh self.old refresh pass) }
         ensures room { OnSome result (self.new.installed + length self.new.refreshes < self.new.refreshed) }
+        ensures small { self.new.refreshed < 2 ^ 64 }
     {
-        let named = Named {
-            number: refresh,
-            pass,
-        };
-        match self.refreshes.take(named) {
-            Some(open) => Some(open.what),
-            None => None,
-        }
+        self.refreshes.end(pass, refresh, resources)
     }
 
     // installs the metadata of a refresh that began at this moment, where none of a later refresh is installed
     fn install(&mut self, refresh: u64, tree: Tree, moment: Moment) -> RefreshEnded
-        requires { self.old.installed + length self.old.refreshes < self.old.refreshed }
+        requires room { self.old.installed + length self.old.refreshes < self.old.refreshed }
+        requires small { self.old.refreshed < 2 ^ 64 }
         ensures reply { result ≡ install_reply self.old (newer self.old refresh) }
         ensures after { self.new ≡ install_after self.old refresh (tree_view tree) moment result }
     {
         if let Some(refresh) = self.newer(refresh) {
             return RefreshEnded::Older { refresh };
         }
-        self.installed = Some(Installed {
-            tree,
-            refresh,
-            moment,
-        });
+        self.installed = Some(Installed::new(tree, refresh, moment));
         self.installations += 1;
         RefreshEnded::Installed {
             generation: self.installations,
@@ -432,9 +434,98 @@ impl Edge {
         ensures { result ≡ newer self.now refresh }
     {
         match &self.installed {
-            Some(installed) if refresh < installed.refresh => Some(installed.refresh),
+            Some(installed) if refresh < installed.refresh() => Some(installed.refresh()),
             _ => None,
         }
+    }
+
+    /// An invalidate or a purge becomes active (RFC 8007, section 4.1): what its selection hits is no longer kept, of the
+    /// open fetches that it hits nothing will be, and the installed metadata and that of the open refreshes is invalid
+    /// where it hits one of the documents.
+    ///
+    /// # Errors
+    /// Want of memory. Nothing has changed then.
+    pub fn start(
+        &mut self,
+        alloc: Global,
+        trigger: u64,
+        selection: &Selection,
+    ) -> Result<(), AllocError>
+        requires { self.old.started ≤ 2 ^ 62 }
+        ensures after { OnOk result (self.new ≡ start_after self.old trigger selection.now) }
+        ensures err { OnErr result (self.new ≡ self.old) }
+    {
+        let copy = self.refreshes.copy_start(alloc, trigger, selection)?;
+        self.shelf.start(alloc, selection)?;
+        self.refreshes.note(copy);
+        if let Some(installed) = &mut self.installed {
+            installed.start(trigger, selection);
+        }
+        Ok(())
+    }
+
+    /// Whether a trigger that would fetch this URL skips it: since no valid metadata is installed, no HostMatch matches,
+    /// an object that must be enforced is not understood, or no source can be asked.
+    ///
+    /// # Errors
+    /// Want of memory.
+    pub fn skips(&self, alloc: Global, url: &Target) -> Result<bool, AllocError>
+        ensures { IfOk result (λ r. r ≡ skips self.now url.now) }
+    {
+        match effective_at(alloc, self.index(), self.invalid(), url)? {
+            Some(effective) => Ok(unskipped_plan(alloc, &effective)?.is_none()),
+            None => Ok(true),
+        }
+    }
+
+    /// Begins a fetch of a trigger for this URL. The answer is its number and the endpoints from which it can be had;
+    /// `None` where the URL is skipped.
+    ///
+    /// # Errors
+    /// Want of memory. Nothing has changed then.
+    pub fn plan(
+        &mut self,
+        alloc: Global,
+        pass: u32,
+        url: &Target,
+    ) -> Result<Option<Planned>, AllocError>
+        requires { self.old.fetched ≤ 2 ^ 62 }
+        ensures reply { IfOk result (λ r. r ≡ plan_reply self.old url.now) }
+        ensures after { OnOk result (self.new ≡ plan_after self.old pass url.now) }
+        ensures err { OnErr result (self.new ≡ self.old) }
+    {
+        let Some((what, plan)) = self.sourced(alloc, url)? else {
+            return Ok(None);
+        };
+        let fetch = self.shelf.open(alloc, pass, what)?;
+        Ok(Some(Planned { fetch, plan }))
+    }
+
+    // what a fetch of this URL has to bring, and from where, unless the URL is skipped
+    fn sourced(
+        &self,
+        alloc: Global,
+        url: &Target,
+    ) -> Result<Option<(Fetching, EndpointList)>, AllocError>
+        ensures { IfOk result (λ found. found ≡ sourced self.now url.now) }
+    {
+        let Some(effective) = effective_at(alloc, self.index(), self.invalid(), url)? else {
+            return Ok(None);
+        };
+        match unskipped_plan(alloc, &effective)? {
+            Some(plan) => Ok(Some((fetching_by(alloc, &effective, url)?, plan))),
+            None => Ok(None),
+        }
+    }
+}
+
+// the keys of the documents of which the metadata was made, where there is any
+fn resources_of(tree: &Option<Tree>) -> &[Key]
+    ensures { result.now ≡ resources_of (option_map tree_view tree.now) }
+{
+    match tree {
+        Some(tree) => tree.resources.as_slice(),
+        None => &[],
     }
 }
 
@@ -447,8 +538,7 @@ fn decide_allowed(
 ) -> Result<Decision, AllocError>
     ensures { IfOk result (λ decision. decision ≡ allowed shelf.now.kept effective.now target.now) }
 {
-    let key = key_by(alloc, effective, target)?;
-    let ccid = ccid_by(alloc, effective)?;
+    let Fetching { key, ccid } = fetching_by(alloc, effective, target)?;
     match shelf.find(&key) {
         Some(object) => Ok(Decision::Hit {
             key,

@@ -4,11 +4,15 @@
 
 mod decision;
 mod edge;
+mod installed;
 mod open;
 mod records;
+mod refreshes;
 mod results;
 mod shelf;
 
 pub use edge::Edge;
 pub use open::Open;
-pub use results::{Admitted, Began, RefreshEnded};
+pub use refreshes::Noted;
+pub use results::{Admitted, Began, Planned, RefreshEnded};
+pub use shelf::Flight;

@@ -29,6 +29,13 @@ pub enum Admitted {
     },
 }
 
+/// A fetch of a trigger that has begun, and the endpoints from which it can be had, in order.
+#[derive(Drop)]
+pub struct Planned {
+    pub fetch: u64,
+    pub plan: EndpointList,
+}
+
 /// Whether a refresh begins.
 #[derive(Clone, Copy, Debug, PartialEq, Eq)]
 pub enum Began {
@@ -43,6 +50,8 @@ pub enum Began {
 pub enum RefreshEnded {
     /// Its metadata is installed, the so manieth.
     Installed { generation: u64 },
+    /// This trigger, the first such, was started since the refresh began and hits a document of its metadata.
+    Stale { trigger: u64 },
     /// The metadata of this later refresh is installed already.
     Older { refresh: u64 },
     /// It has brought nothing.

@@ -1,11 +1,11 @@
 //! What fetches brought, and the fetches that are open.
 
-ghost use Rattle.std.specs.Prelude.{◌≡◌, ◌+◌, ◌^◌, ◌<◌, ◌≤◌, Ok, [], map, IfOk, IfNone, OnOk, OnErr, option_map};
+ghost use Rattle.std.specs.Prelude.{◌≡◌, ◌+◌, ◌^◌, ◌<◌, ◌≤◌, false, Ok, [], map, length, IfOk, IfNone, OnOk, OnErr, option_map};
 ghost use Rattle.std.specs.List.{find};
 ghost use Rattle.object_cache.specs.ObjectTable as objects;
 ghost use Rattle.history.specs.Kept.{kept_of, used, gained, with_gained};
-ghost use Rattle.delivery_core.specs.Open.{is_named, AreUpTo};
-ghost use Rattle.delivery_core.specs.Shelf.{kept_object, opened, end_reply, end_after, brought, is_gained};
+ghost use Rattle.delivery_core.specs.Open.{is_named, AreRising};
+ghost use Rattle.delivery_core.specs.Shelf.{kept_object, opened, end_reply, end_after, start_after, brought, is_gained, is_struck, selects_content, struck, struck_flight};
 
 use crate::open::{Named, Open};
 use cdni_base::Key;
@@ -14,7 +14,15 @@ use object_cache::{Object, ObjectTable};
 use rows::Row;
 use std::alloc::{AllocError, Global};
 use std::marker::Model;
+use trigger_command::Selection;
 use upstream_gate::{Got, Outcome};
+
+/// An open fetch: what it fetches, and whether a start has hit that since it was opened.
+#[derive(Drop)]
+pub struct Flight {
+    pub fetching: Fetching,
+    pub hit: bool,
+}
 
 /// The kept objects, and the fetches that are open. It is seen as the most bytes that are kept, the kept objects, the
 /// least recently used first, the open fetches, in order, and how many were opened. Each open fetch has a place for
@@ -22,14 +30,14 @@ use upstream_gate::{Got, Outcome};
 #[derive(Drop)]
 pub(crate) struct Shelf {
     table: ObjectTable,
-    flights: Row<Open<Fetching>>,
+    flights: Row<Open<Flight>>,
     fetched: u64,
 }
 
 impl Model for Shelf {
     ghost use Rattle.std.specs.Prelude.{◌≤◌, map, length};
     ghost use Rattle.delivery_core.specs.Shelf.{ShelfView, kept_object};
-    ghost use Rattle.delivery_core.specs.Open.{AreUpTo};
+    ghost use Rattle.delivery_core.specs.Open.{AreRising, AreUpTo};
 
     ghost Value = { ShelfView };
 
@@ -40,7 +48,8 @@ impl Model for Shelf {
       fetched = s.fetched;
     } };
 
-    ghost invariant = { λ s. (length s.flights.items ≤ s.table.spare) × AreUpTo s.fetched s.flights.items };
+    ghost invariant = { λ s. (length s.flights.items ≤ s.table.spare) × AreUpTo s.fetched s.flights.items
+        × AreRising 0 s.flights.items };
 }
 
 impl Shelf {
@@ -59,10 +68,10 @@ impl Shelf {
     ///
     /// # Errors
     /// Want of memory. Nothing is opened then.
-    pub fn open(&mut self, alloc: Global, pass: u32, what: Fetching) -> Result<u64, AllocError>
+    pub fn open(&mut self, alloc: Global, pass: u32, fetching: Fetching) -> Result<u64, AllocError>
         requires { self.old.fetched ≤ 2 ^ 62 }
         ensures reply { IfOk result (λ fetch. fetch ≡ self.old.fetched + 1) }
-        ensures after { OnOk result (self.new ≡ opened self.old pass what) }
+        ensures after { OnOk result (self.new ≡ opened self.old pass fetching) }
         ensures err { OnErr result (self.new ≡ self.old) }
     {
         self.flights.reserve(alloc, 1)?;
@@ -71,7 +80,10 @@ impl Shelf {
         self.flights.push(Open {
             number: self.fetched,
             pass,
-            what,
+            what: Flight {
+                fetching,
+                hit: false,
+            },
         });
         Ok(self.fetched)
     }
@@ -88,6 +100,25 @@ impl Shelf {
         ensures { self.new ≡ record self.old { kept = used key.now self.old.kept } }
     {
         self.table.touch(key);
+    }
+
+    /// A trigger starts: what its selection hits is no longer kept, and of the open fetches that it hits nothing will be.
+    ///
+    /// # Errors
+    /// Want of memory. Nothing has changed then.
+    pub fn start(&mut self, alloc: Global, selection: &Selection) -> Result<(), AllocError>
+        ensures after { OnOk result (self.new ≡ start_after self.old selection.now) }
+        ensures err { OnErr result (self.new ≡ self.old) }
+    {
+        if !selects_content(selection) {
+            return Ok(());
+        }
+        let mut flights = Row::new(alloc);
+        flights.reserve(alloc, self.flights.len())?;
+        self.table.drop_matching(alloc, selection)?;
+        move_struck(&mut self.flights, &mut flights, selection);
+        self.flights = flights;
+        Ok(())
     }
 
     /// Ends the fetch of this number, if this pass opened it, and keeps what it brought where it is to be kept. It takes
@@ -108,8 +139,52 @@ impl Shelf {
     }
 }
 
+// whether the selection selects content
+fn selects_content(selection: &Selection) -> bool
+    ensures { result ≡ selects_content selection.now }
+{
+    selection.content_urls.len() > 0
+        || selection.content_patterns.len() > 0
+        || selection.ccids.len() > 0
+}
+
+// moves all open fetches to an empty row, and marks those that the selection hits
+fn move_struck(from: &mut Row<Open<Flight>>, to: &mut Row<Open<Flight>>, selection: &Selection)
+    requires rising { AreRising 0 from.old.items }
+    requires empty { to.old.items ≡ [] }
+    requires places { length from.old.items ≤ to.old.spare }
+    ensures { to.new.items ≡ map (struck selection.now) from.old.items }
+{
+    'flights: while let Some(flight) = from.take_first() {
+        to.push(Open {
+            number: flight.number,
+            pass: flight.pass,
+            what: strike(flight.what, selection),
+        });
+    }
+}
+
+// marks an open fetch where the selection hits it
+fn strike(flight: Flight, selection: &Selection) -> Flight
+    ensures { result ≡ struck_flight selection.now flight }
+{
+    let hit = is_struck(&flight, selection);
+    Flight {
+        fetching: flight.fetching,
+        hit,
+    }
+}
+
+// whether a start has hit it, or this selection does
+fn is_struck(flight: &Flight, selection: &Selection) -> bool
+    ensures { result ≡ is_struck selection.now flight.now }
+{
+    let fetching = &flight.fetching;
+    flight.hit || selection.hits(&fetching.key, fetching.ccid.as_ref())
+}
+
 // keeps what an open fetch brought where it is to be kept, and gives its place back where it is not
-fn keep(table: &mut ObjectTable, flight: Open<Fetching>, outcome: Outcome) -> bool
+fn keep(table: &mut ObjectTable, flight: Open<Flight>, outcome: Outcome) -> bool
     requires { 0 < table.old.spare }
     ensures reply { result ≡ is_gained table.old.limit (map kept_object table.old.objects) flight outcome }
     ensures kept { map kept_object table.new.objects ≡ brought table.old.limit
@@ -117,6 +192,10 @@ fn keep(table: &mut ObjectTable, flight: Open<Fetching>, outcome: Outcome) -> bo
     ensures limit { table.new.limit ≡ table.old.limit }
     ensures spare { table.new.spare + 1 ≡ table.old.spare }
 {
+    if flight.what.hit {
+        table.give_back();
+        return false;
+    }
     match outcome {
         Outcome::Got(got) => keep_content(table, flight, got),
         _ => {
@@ -126,9 +205,10 @@ fn keep(table: &mut ObjectTable, flight: Open<Fetching>, outcome: Outcome) -> bo
     }
 }
 
-// the same of content
-fn keep_content(table: &mut ObjectTable, flight: Open<Fetching>, got: Got) -> bool
-    requires { 0 < table.old.spare }
+// the same of content, where no start has hit the fetch
+fn keep_content(table: &mut ObjectTable, flight: Open<Flight>, got: Got) -> bool
+    requires spare { 0 < table.old.spare }
+    requires unhit { flight.what.hit ≡ false }
     ensures reply { result ≡ is_gained table.old.limit (map kept_object table.old.objects) flight (Outcome.Got got) }
     ensures kept { map kept_object table.new.objects ≡ brought table.old.limit
         (map kept_object table.old.objects) flight (Outcome.Got got) }
@@ -140,7 +220,7 @@ fn keep_content(table: &mut ObjectTable, flight: Open<Fetching>, got: Got) -> bo
         return false;
     }
     let (kind, body) = got.into_parts();
-    let Fetching { key, ccid } = flight.what;
+    let Fetching { key, ccid } = flight.what.fetching;
     table.fill_reserved(Object {
         key,
         fetch: flight.number,

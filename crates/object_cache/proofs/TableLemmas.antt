@@ -1,10 +1,16 @@
 -- What the kept objects are after each call, and their lengths together.
-use Rattle.std.proofs.Common.{◌≡◌, ℕ, ◌+◌, ◌-◌, ◌<◌, ◌≤◌, ◌⊎◌, inl, inr, Bool, true, false, cond, not, nat_le, List, [], ◌∷◌, ◌++◌, Option, None, Some, filter, find, refl, sym, ap, ◌∙◌, arith}
+use Rattle.std.proofs.Common.{◌≡◌, ℕ, ◌+◌, ◌-◌, ◌<◌, ◌≤◌, ◌⊎◌, inl, inr, Bool, true, false, cond, not, nat_le, List, [], ◌∷◌, ◌++◌, Option, None, Some, filter, find, option_to_list, refl, sym, ap, ◌∙◌, subst, append_assoc, arith}
 use Rattle.std.proofs.lemmas.List.Sums.{sum_by-cons, sum_by_push}
 use Rattle.std.proofs.lemmas.Bool.{cases_lt, le-leb, leb-true, lt-leb, and_parts}
+use Rattle.std.proofs.lemmas.List.{append-nil}
 use Rattle.std.proofs.lemmas.Option.{none-some}
+use Rattle.cdni_base.specs.Key.{KeyParts}
+use Rattle.cdni_base.specs.KeyEqualityLemmas.{key_decides}
+use Rattle.rows.specs.Row.{moved}
+use Rattle.trigger_command.specs.Selection.{hits}
+use Rattle.trigger_command.specs.declared.selection.Selection.{Selection}
 use Rattle.object_cache.specs.declared.object.Object.{Object}
-use Rattle.object_cache.specs.ObjectTable.{Kept, evicted, filled, is_filled, length_of, others, total}
+use Rattle.object_cache.specs.ObjectTable.{AreApart, Kept, evicted, filled, is_filled, is_of, kept_of, length_of, others, total, unhit}
 
 -- a table with these
 abbrev pub kept : ℕ → List Object → ℕ → Kept
@@ -83,3 +89,91 @@ filled_false limit xs o h = ap (λ (b : Bool). cond b (evicted limit (others o.k
 
 pub filled_small : (limit : ℕ) (xs : List Object) (o : Object) → is_filled limit xs o ≡ true → length_of o ≤ limit
 filled_small limit xs o h = leb-true (length_of o) limit (and_parts (nat_le (length_of o) limit) _ h).0
+
+-- ---- no two objects have one key
+
+-- by a test, of two lists together
+module _ (test : Object → Bool) where
+  pub none_left : (a b : List Object) → find test (a ++ b) ≡ None → find test a ≡ None
+  none_left [] b h = refl
+  none_left (x ∷ a) b h = left_by (test x) h (none_left a b)
+    where
+      left_by : (t : Bool) → cond t (Some x) (find test (a ++ b)) ≡ None → (find test (a ++ b) ≡ None → find test a ≡ None)
+          → cond t (Some x) (find test a) ≡ None
+      left_by true h rest = h
+      left_by false h rest = rest h
+
+  none_right : (a b : List Object) → find test (a ++ b) ≡ None → find test b ≡ None
+  none_right [] b h = h
+  none_right (x ∷ a) b h = none_right a b (none_rest test (test x) x (find test (a ++ b)) h)
+
+  none_join : (a b : List Object) → find test a ≡ None → find test b ≡ None → find test (a ++ b) ≡ None
+  none_join [] b h g = g
+  none_join (x ∷ a) b h g = join_by (test x) h (λ rest. none_join a b rest g)
+    where
+      join_by : (t : Bool) → cond t (Some x) (find test a) ≡ None → (find test a ≡ None → find test (a ++ b) ≡ None)
+          → cond t (Some x) (find test (a ++ b)) ≡ None
+      join_by true h rest = h
+      join_by false h rest = rest h
+
+  found_passes : (xs : List Object) (o : Object) → find test xs ≡ Some o → test o ≡ true
+  found_passes [] o h = absurd (none-some o h)
+  found_passes (x ∷ xs) o h = passes_by (test x) refl h (found_passes xs o)
+    where
+      passes_by : (t : Bool) → test x ≡ t → cond t (Some x) (find test xs) ≡ Some o → (find test xs ≡ Some o → test o ≡ true) → test o ≡ true
+      passes_by true is found rest = let same : x ≡ o = cc in ap test (sym same) ∙ is
+      passes_by false is found rest = rest found
+
+pub apart_fewer : (a b xs : List Object) → ((key : KeyParts) → kept_of key a ≡ None → kept_of key b ≡ None) → AreApart a xs → AreApart b xs
+apart_fewer a b [] fewer h = tt
+apart_fewer a b (x ∷ xs) fewer h = (
+  fewer x.key h.0,
+  apart_fewer (a ++ x ∷ []) (b ++ x ∷ []) xs
+      (λ key none. none_join (is_of key) b (x ∷ []) (fewer key (none_left (is_of key) a (x ∷ []) none)) (none_right (is_of key) a (x ∷ []) none))
+      h.1,
+)
+
+pub apart_rest : (a xs : List Object) (x : Object) → AreApart a (x ∷ xs) → AreApart a xs
+apart_rest a xs x h = apart_fewer (a ++ x ∷ []) a xs (λ key. none_left (is_of key) a (x ∷ [])) h.1
+
+pub apart_filter : (test : Object → Bool) (a xs : List Object) → AreApart a xs → AreApart a (filter test xs)
+apart_filter test a [] h = tt
+apart_filter test a (x ∷ xs) h = elim (test x) as (λ t. AreApart a (cond t (x ∷ filter test xs) (filter test xs))) [
+  | true ↦ (h.0, apart_filter test (a ++ x ∷ []) xs h.1)
+  | false ↦ apart_filter test a xs (apart_rest a xs x h)
+]
+
+pub apart_evicted : (most : ℕ) (a xs : List Object) → AreApart a xs → AreApart a (evicted most xs)
+apart_evicted most a [] h = tt
+apart_evicted most a (x ∷ xs) h = elim (nat_le (total (x ∷ xs)) most) as (λ t. AreApart a (cond t (x ∷ xs) (evicted most xs))) [
+  | true ↦ h
+  | false ↦ apart_evicted most a xs (apart_rest a xs x h)
+]
+
+pub apart_push : (a xs : List Object) (o : Object) → AreApart a xs → kept_of o.key (a ++ xs) ≡ None → AreApart a (xs ++ o ∷ [])
+apart_push a [] o h none = (none_left (is_of o.key) a [] none, tt)
+apart_push a (x ∷ xs) o h none = (h.0, apart_push (a ++ x ∷ []) xs o h.1 (rw append_assoc none))
+
+pub apart_moved : (key : KeyParts) (xs : List Object) → AreApart [] xs → AreApart [] (moved (is_of key) xs)
+apart_moved key xs h = moved_by (kept_of key xs) refl
+  where
+    moved_by : (found : Option Object) → kept_of key xs ≡ found → AreApart [] (others key xs ++ option_to_list found)
+    moved_by None is = rw append-nil (apart_filter (λ o. not (is_of key o)) [] xs h)
+    moved_by (Some o) is =
+        apart_push [] (others key xs) o (apart_filter (λ o. not (is_of key o)) [] xs h)
+        (subst (λ k. kept_of k (others key xs) ≡ None) ((key_decides key o.key).0 (found_passes (is_of key) xs o is)) (none_other (is_of key) xs))
+
+pub apart_filled : (most : ℕ) (xs : List Object) (o : Object) → AreApart [] xs → AreApart [] (evicted most (others o.key xs) ++ o ∷ [])
+apart_filled most xs o h =
+    apart_push [] (evicted most (others o.key xs)) o (apart_evicted most [] (others o.key xs) (apart_filter (λ p. not (is_of o.key p)) [] xs h))
+    (none_evicted (is_of o.key) most (others o.key xs) (none_other (is_of o.key) xs))
+
+-- where the first object leaves a list
+pub apart_next : (a xs ys : List Object) (x : Object) → ys ≡ x ∷ xs → AreApart a ys → AreApart a xs
+apart_next a xs ys x is h = apart_rest a xs x (subst (AreApart a) is h)
+
+-- and a selection hits it
+pub unhit_next : (selection : Selection) (xs ys : List Object) (x : Object) → ys ≡ x ∷ xs → hits selection x.key x.ccid ≡ true
+    → unhit selection ys ≡ unhit selection xs
+unhit_next selection xs ys x is hit =
+    ap (unhit selection) is ∙ ap (λ (t : Bool). cond (not t) (x ∷ unhit selection xs) (unhit selection xs)) hit

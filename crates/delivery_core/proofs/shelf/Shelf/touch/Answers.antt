@@ -1,4 +1,4 @@
-use Rattle.std.proofs.Common.{ap, ◌∙◌}
+use Rattle.std.proofs.Common.{ap}
 use Rattle.delivery_core.proofs.ShelfLemmas.{shelf, used_kept}
 use Rattle.delivery_core.proofs.shelf.Shelf.touch.Goals as goal
 

@@ -32,4 +32,4 @@ module _ (edge : EdgeView) (pass : ℕ) where
       rw (left, answer, is) (admitted_places (admission asked place moment None false) (decision_of edge asked place moment) (full_count edge opened))
 
   pub due_places : (edge' : EdgeView) (moment refresh : ℕ) → edge' ≡ begin_after edge pass moment (began.Due refresh) → open_count edge' ≤ open_count edge + 1
-  due_places edge' moment refresh left = rw left (omega (arith, length-append edge.refreshes (record { number = refresh; pass = pass; what = moment } ∷ [])))
+  due_places edge' moment refresh left = rw left (omega (arith, length-append edge.refreshes (record { number = refresh; pass = pass; what = record { moment = moment; since = [] } } ∷ [])))

@@ -4,7 +4,7 @@ use Rattle.std.specs.List.{filter, find, list_any}
 use Rattle.std.specs.Option.{is_some}
 use Rattle.control_core.specs.Control.{ControlView}
 use Rattle.delivery_core.proofs.ListLemmas.{filter_shorter}
-use Rattle.delivery_core.specs.Edge.{EdgeView, fetch_end_after, fetch_end_reply, finish_after, finish_reply, install_after, install_reply, newer, refresh_end_after, refresh_end_reply}
+use Rattle.delivery_core.specs.Edge.{EdgeView, fetch_end_after, fetch_end_reply, finish_after, finish_reply, fresh_reply, install_after, install_reply, newer, refresh_end_after, refresh_end_reply}
 use Rattle.delivery_core.specs.Open.{is_named, unnamed}
 use Rattle.delivery_core.specs.OpenCount.{open_count}
 use Rattle.delivery_core.specs.Traces.{fetch_ended, finished, refresh_ended, reply_of}
@@ -15,7 +15,8 @@ use Rattle.delivery_core.specs.declared.results.RefreshEnded.{RefreshEnded}
 use Rattle.delivery_core.specs.declared.results.RefreshEnded.TheVariants as ended_as
 use Rattle.cdni_log.specs.declared.row.Row.{Row}
 use Rattle.history.specs.declared.begun.Admission.{Admission}
-use Rattle.history.specs.declared.begun.Fetching.{Fetching}
+use Rattle.delivery_core.specs.Refreshes.{Refreshing, first_noted}
+use Rattle.delivery_core.specs.declared.shelf.Flight.{Flight}
 use Rattle.history.specs.declared.reply.Reply.{Reply}
 use Rattle.metadata_objects.specs.Tree.{TreeData}
 use Rattle.node_core.proofs.StateLemmas.{state}
@@ -48,7 +49,7 @@ shorter test (x ∷ xs) is =
 -- ---- ends
 
 module _ (edge edge' : EdgeView) (control : ControlView) (origin : List ℕ) (opened : ℕ) where
-  fetch_by : (pass fetch : ℕ) (outcome : Outcome) (found : Option (Open Fetching)) → find (is_named fetch pass) edge.fetches ≡ found → (ended : Option Bool) (r : Reply) → ended ≡ fetch_end_reply edge outcome found
+  fetch_by : (pass fetch : ℕ) (outcome : Outcome) (found : Option (Open Flight)) → find (is_named fetch pass) edge.fetches ≡ found → (ended : Option Bool) (r : Reply) → ended ≡ fetch_end_reply edge outcome found
       → edge' ≡ fetch_end_after edge pass fetch outcome found → r ≡ fetch_ended fetch ended → Ends (state edge control origin opened) (state edge' control origin opened) (is_some found) r
   fetch_by pass fetch outcome None there ended r is left answer = record {
     found = ap is_not_open (answer ∙ ap (fetch_ended fetch) is);
@@ -96,7 +97,15 @@ module _ (edge edge' : EdgeView) (control : ControlView) (origin : List ℕ) (op
   installed_found refresh None = refl
   installed_found refresh (Some later) = refl
 
-  refresh_by : (pass refresh : ℕ) (tree : Option TreeData) (found : Option (Open ℕ)) → find (is_named refresh pass) edge.refreshes ≡ found → (ended : RefreshEnded) (r : Reply) → ended ≡ refresh_end_reply edge refresh tree found
+  fresh_open : (without : EdgeView) (refresh moment : ℕ) (tree : TreeData) (hit : Option ℕ) → open_count (install_after without refresh tree moment (fresh_reply edge refresh hit)) ≡ open_count without
+  fresh_open without refresh moment tree (Some trigger) = refl
+  fresh_open without refresh moment tree None = installed_open without refresh moment tree (newer edge refresh)
+
+  fresh_found : (refresh : ℕ) (hit : Option ℕ) → is_not_open (refresh_ended refresh (fresh_reply edge refresh hit)) ≡ false
+  fresh_found refresh (Some trigger) = refl
+  fresh_found refresh None = installed_found refresh (newer edge refresh)
+
+  refresh_by : (pass refresh : ℕ) (tree : Option TreeData) (found : Option (Open Refreshing)) → find (is_named refresh pass) edge.refreshes ≡ found → (ended : RefreshEnded) (r : Reply) → ended ≡ refresh_end_reply edge refresh tree found
       → edge' ≡ refresh_end_after edge pass refresh tree found → r ≡ refresh_ended refresh ended → Ends (state edge control origin opened) (state edge' control origin opened) (is_some found) r
   refresh_by pass refresh tree None there ended r is left answer = record {
     found = ap is_not_open (answer ∙ ap (refresh_ended refresh) is);
@@ -109,10 +118,10 @@ module _ (edge edge' : EdgeView) (control : ControlView) (origin : List ℕ) (op
     freed = λ _. (let less = shorter (is_named refresh pass) edge.refreshes (ap is_some there) in rw left (omega (arith, less)));
   }
   refresh_by pass refresh (Some tree) (Some begun) there ended r is left answer = record {
-    found = ap is_not_open (answer ∙ ap (refresh_ended refresh) is) ∙ installed_found refresh (newer edge refresh);
+    found = ap is_not_open (answer ∙ ap (refresh_ended refresh) is) ∙ fresh_found refresh (first_noted tree.resources begun.what.since);
     closed = λ no. absurd (cc);
     freed = λ _. (let less = shorter (is_named refresh pass) edge.refreshes (ap is_some there) in
-        rw (left, installed_open (record edge { refreshes = unnamed refresh pass edge.refreshes }) refresh begun.what tree (newer edge refresh)) (omega (arith, less)));
+        rw (left, fresh_open (record edge { refreshes = unnamed refresh pass edge.refreshes }) refresh begun.what.moment tree (first_noted tree.resources begun.what.since)) (omega (arith, less)));
   }
 
   pub refresh_ends : (pass refresh : ℕ) (tree : Option TreeData) (ended : RefreshEnded) (r : Reply) → ended ≡ refresh_end_reply edge refresh tree (find (is_named refresh pass) edge.refreshes)
@@ -140,6 +149,7 @@ finish_kind delivery (Some row) r is = ap answers_finish is
 
 pub refresh_end_kind : (refresh : ℕ) (ended : RefreshEnded) (r : Reply) → r ≡ refresh_ended refresh ended → answers_refresh_end r ≡ true
 refresh_end_kind refresh (ended_as.Installed generation) r is = ap answers_refresh_end is
+refresh_end_kind refresh (ended_as.Stale trigger) r is = ap answers_refresh_end is
 refresh_end_kind refresh (ended_as.Older later) r is = ap answers_refresh_end is
 refresh_end_kind refresh ended_as.Failed r is = ap answers_refresh_end is
 refresh_end_kind refresh ended_as.NotOpen r is = ap answers_refresh_end is

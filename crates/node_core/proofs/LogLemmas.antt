@@ -77,11 +77,7 @@ opened_by_it w full many r is also =
 cut_files : (w : World) (pass moment : ℕ) → control_of (after_reply w (pass, Cut moment) (reply.File (w.counts.filed + 1)))
     ≡ with_file (control_of w) (record { number = w.counts.filed + 1; moment = moment; origin = w.made.origin }) (map row_in w.delivering.unfiled)
 unfolding after_reply
-cut_files w pass moment = ap (λ fs. record { files = fs; most = w.made.limits.files; filed = w.counts.filed + 1 }) (map-append (file_in w.made.origin) w.controlling.files _)
-
-plain_after : (w : World) (pass moment : ℕ) → w.delivering.starts ≡ [] → (after w (pass, Cut moment)).delivering.starts ≡ []
-unfolding after after_reply
-plain_after w pass moment plain = plain
+cut_files w pass moment = ap (λ fs. record (control_of w) { files = fs; filed = w.counts.filed + 1 }) (map-append (file_in w.made.origin) w.controlling.files _)
 
 module _ (made : Made) (h : History) (edge : EdgeView) (control : ControlView) (origin : List ℕ) (opened : ℕ) (s : Follows (state edge control origin opened) made h) where
   abbrev w : World
@@ -122,17 +118,17 @@ module _ (made : Made) (h : History) (edge : EdgeView) (control : ControlView) (
         let replied = nothing_replied none in
         told made h cut reply.NothingToCut edge control origin opened replied
         (s.edge ∙ sym (left_by w cut reply.NothingToCut (sym replied) ∙ squares.uncut_leaves w pass moment))
-        (s.control ∙ control_kept w cut reply.NothingToCut replied refl refl) s.origin
+        (s.control ∙ control_kept w cut reply.NothingToCut replied refl refl refl refl) s.origin
         (s.opened ∙ same_opened w.counts.opened ∙ after_opens w cut reply.NothingToCut replied)
-        (plain_after w pass moment s.plain) s.untriggered
+        s.untriggered
 
     full_told_by : (count : ℕ) → reply.Full count ≡ reply_in w cut → Says made h cut (reply.Full count) (state edge control origin opened)
     full_told_by count replied =
         told made h cut (reply.Full count) edge control origin opened replied
         (s.edge ∙ sym (left_by w cut (reply.Full count) (sym replied) ∙ squares.full_cut_leaves w pass moment count))
-        (s.control ∙ control_kept w cut (reply.Full count) replied refl refl) s.origin
+        (s.control ∙ control_kept w cut (reply.Full count) replied refl refl refl refl) s.origin
         (s.opened ∙ same_opened w.counts.opened ∙ after_opens w cut (reply.Full count) replied)
-        (plain_after w pass moment s.plain) s.untriggered
+        s.untriggered
 
     -- as many files are kept as may be
     pub full_told : 0 < length edge.unfiled → (length control.files == edge.limits.files) ≡ true → Says made h cut (reply.Full (length control.files)) (state edge control origin opened)
@@ -158,7 +154,7 @@ module _ (made : Made) (h : History) (edge : EdgeView) (control : ControlView) (
         ∙ sym (control_by w cut (reply.File (w.counts.filed + 1)) new ∙ cut_files w pass moment))
         s.origin
         (ap (λ n. n + 1) s.opened ∙ after_opens w cut (reply.File number) replied)
-        (plain_after w pass moment s.plain) s.untriggered
+        s.untriggered
 
   -- ---- reading, listing and dropping
 
@@ -174,21 +170,17 @@ module _ (made : Made) (h : History) (edge : EdgeView) (control : ControlView) (
     unfolding reply_in
     log_replied = ap (λ found. logged number (option_map (λ (file : LogFile). file.text) found)) found_files ∙ log_by (replies.file_of number w.controlling.files)
 
-    log_plain : (after w (pass, ReadLog number)).delivering.starts ≡ []
-    unfolding after after_reply
-    log_plain = s.plain
-
     log_told_by : (text : Option (List ℕ)) → logged number text ≡ reply_in w (pass, ReadLog number) → Says made h (pass, ReadLog number) (logged number text) (state edge control origin opened)
     log_told_by None replied =
         told made h (pass, ReadLog number) (reply.Unknown number) edge control origin opened replied
         (s.edge ∙ sym (left_by w (pass, ReadLog number) (reply.Unknown number) (sym replied) ∙ squares.no_log_leaves w pass number))
-        (s.control ∙ control_kept w (pass, ReadLog number) (reply.Unknown number) replied refl refl) s.origin
-        (s.opened ∙ same_opened w.counts.opened ∙ after_opens w (pass, ReadLog number) (reply.Unknown number) replied) log_plain s.untriggered
+        (s.control ∙ control_kept w (pass, ReadLog number) (reply.Unknown number) replied refl refl refl refl) s.origin
+        (s.opened ∙ same_opened w.counts.opened ∙ after_opens w (pass, ReadLog number) (reply.Unknown number) replied) s.untriggered
     log_told_by (Some text) replied =
         told made h (pass, ReadLog number) (reply.LogText text) edge control origin opened replied
         (s.edge ∙ sym (left_by w (pass, ReadLog number) (reply.LogText text) (sym replied) ∙ squares.log_leaves w pass number text))
-        (s.control ∙ control_kept w (pass, ReadLog number) (reply.LogText text) replied refl refl) s.origin
-        (s.opened ∙ same_opened w.counts.opened ∙ after_opens w (pass, ReadLog number) (reply.LogText text) replied) log_plain s.untriggered
+        (s.control ∙ control_kept w (pass, ReadLog number) (reply.LogText text) replied refl refl refl refl) s.origin
+        (s.opened ∙ same_opened w.counts.opened ∙ after_opens w (pass, ReadLog number) (reply.LogText text) replied) s.untriggered
 
     pub log_told : Says made h (pass, ReadLog number) (logged number (text_at number control.files)) (state edge control origin opened)
     log_told = log_told_by (text_at number control.files) log_replied
@@ -209,10 +201,6 @@ module _ (made : Made) (h : History) (edge : EdgeView) (control : ControlView) (
     unfolding reply_in
     drop_replied dropped is = ap (dropped_log number) (is ∙ any_is) ∙ drop_by (replies.file_of number w.controlling.files)
 
-    drop_plain : (after w (pass, DropLog number)).delivering.starts ≡ []
-    unfolding after after_reply
-    drop_plain = s.plain
-
     kept_files : filter (λ file. not (has_number number file)) control.files ≡ map (file_in w.made.origin) (filter (λ (file : Filed). not (file.number == number)) w.controlling.files)
     kept_files = ap (λ (v : ControlView). filter (λ file. not (has_number number file)) v.files) s.control ∙ filter-map (file_in w.made.origin) (λ file. not (has_number number file)) w.controlling.files
 
@@ -227,12 +215,12 @@ module _ (made : Made) (h : History) (edge : EdgeView) (control : ControlView) (
         told made h (pass, DropLog number) reply.Dropped edge control' origin opened replied
         (s.edge ∙ sym (left_by w (pass, DropLog number) reply.Dropped (sym replied) ∙ squares.dropped_leaves w pass number))
         (kept ∙ sym (control_by w (pass, DropLog number) reply.Dropped replied)) s.origin
-        (s.opened ∙ same_opened w.counts.opened ∙ after_opens w (pass, DropLog number) reply.Dropped replied) drop_plain s.untriggered
+        (s.opened ∙ same_opened w.counts.opened ∙ after_opens w (pass, DropLog number) reply.Dropped replied) s.untriggered
     drop_told_by control' false replied kept =
         told made h (pass, DropLog number) (reply.Unknown number) edge control' origin opened replied
         (s.edge ∙ sym (left_by w (pass, DropLog number) (reply.Unknown number) (sym replied) ∙ squares.undropped_leaves w pass number))
         (kept ∙ sym (control_by w (pass, DropLog number) (reply.Unknown number) replied)) s.origin
-        (s.opened ∙ same_opened w.counts.opened ∙ after_opens w (pass, DropLog number) (reply.Unknown number) replied) drop_plain s.untriggered
+        (s.opened ∙ same_opened w.counts.opened ∙ after_opens w (pass, DropLog number) (reply.Unknown number) replied) s.untriggered
 
     pub drop_told : (control' : ControlView) (dropped : Bool) → dropped ≡ list_any (has_number number) control.files → control' ≡ record control { files = filter (λ file. not (has_number number file)) control.files }
         → Says made h (pass, DropLog number) (dropped_log number dropped) (state edge control' origin opened)
@@ -247,17 +235,13 @@ module _ (made : Made) (h : History) (edge : EdgeView) (control : ControlView) (
     unfolding reply_in
     list_replied = ap (λ (v : ControlView). reply.Numbers (map (λ (file : LogFile). file.number) v.files)) s.control ∙ ap (λ ns. reply.Numbers ns) (numbers_are w.controlling.files)
 
-    list_plain : (after w (pass, ListLogs)).delivering.starts ≡ []
-    unfolding after after_reply
-    list_plain = s.plain
-
     pub list_told : (numbers : List ℕ) → numbers ≡ map (λ (file : LogFile). file.number) control.files → Says made h (pass, ListLogs) (reply.Numbers numbers) (state edge control origin opened)
     list_told numbers are =
         let replied : reply.Numbers numbers ≡ reply_in w (pass, ListLogs) = ap (λ ns. reply.Numbers ns) are ∙ list_replied in
         told made h (pass, ListLogs) (reply.Numbers numbers) edge control origin opened replied
         (s.edge ∙ sym (left_by w (pass, ListLogs) (reply.Numbers numbers) (sym replied) ∙ squares.list_leaves w pass numbers))
-        (s.control ∙ control_kept w (pass, ListLogs) (reply.Numbers numbers) replied refl refl) s.origin
-        (s.opened ∙ same_opened w.counts.opened ∙ after_opens w (pass, ListLogs) (reply.Numbers numbers) replied) list_plain s.untriggered
+        (s.control ∙ control_kept w (pass, ListLogs) (reply.Numbers numbers) replied refl refl refl refl) s.origin
+        (s.opened ∙ same_opened w.counts.opened ∙ after_opens w (pass, ListLogs) (reply.Numbers numbers) replied) s.untriggered
 
 -- ---- soundness
 

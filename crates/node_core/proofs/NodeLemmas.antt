@@ -1,11 +1,12 @@
 -- What a node's journal has after a call.
-use Rattle.std.proofs.Common.{◌≡◌, ℕ, ◌+◌, ◌<◌, ◌≤◌, ◌||◌, ◌↔◌, Bool, true, false, cond, not, arith, IsTrue, OnErr, List, [], ◌∷◌, ◌++◌, map, refl, sym, ap, ◌∙◌, subst, Option, Result, Ok, Err, IfOk, IsOk}
+use Rattle.std.proofs.Common.{◌≡◌, ℕ, ◌+◌, ◌<◌, ◌≤◌, ◌==◌, ◌&&◌, ◌||◌, ◌↔◌, Bool, true, false, cond, not, arith, IsTrue, OnErr, List, [], ◌∷◌, ◌++◌, map, refl, sym, ap, ◌∙◌, subst, Option, Result, Ok, Err, IfOk, IsOk}
 use Rattle.std.specs.declared.alloc.AllocError.{AllocError}
 use Rattle.std.specs.List.{list_any}
 use Rattle.std.proofs.lemmas.List.{append-nil, map-append}
 use Rattle.delivery_core.specs.Edge.{EdgeView}
 use Rattle.delivery_core.specs.Open.{is_named}
-use Rattle.delivery_core.specs.Traces.{unplaced}
+use Rattle.delivery_core.specs.Traces.{flight, refreshing, unplaced}
+use Rattle.delivery_core.specs.declared.open.Open.{Open}
 use Rattle.history.specs.Event.{Entry, Event, History, Admit, FetchEnd, Finish, RefreshBegin, RefreshEnd, Command, Advance, Cancel, Delete, ReadStatus, Lists, Cut, LogFile, ListLogs, DropLog}
 use Rattle.history.specs.History.{reply_to, world_of}
 use Rattle.history.specs.After.{begun_delivery, begun_fetch, begun_refresh}
@@ -91,9 +92,13 @@ same_left old new there r limits stored stored' ends so same =
 
 -- ---- what is open
 
-any_open : {A : Type 0} (number pass : ℕ) (begun : List (Begun A)) → list_any (is_named number pass) (map unplaced begun) ≡ list_any (is_open number pass) begun
-any_open number pass [] = refl
-any_open number pass (one ∷ ones) = ap (λ t. is_open number pass one || t) (any_open number pass ones)
+any_open : {A B : Type 0} (f : Begun A → Open B) → ((one : Begun A) → ((f one).number ≡ one.number) × ((f one).pass ≡ one.pass)) → (number pass : ℕ) (begun : List (Begun A))
+    → list_any (is_named number pass) (map f begun) ≡ list_any (is_open number pass) begun
+any_open f same number pass [] = refl
+any_open f same number pass (one ∷ ones) =
+    ap (λ n. (n == number && (f one).pass == pass) || list_any (is_named number pass) (map f ones)) (same one).0
+    ∙ ap (λ n. (one.number == number && n == pass) || list_any (is_named number pass) (map f ones)) (same one).1
+    ∙ ap (λ t. is_open number pass one || t) (any_open f same number pass ones)
 
 -- what has begun and not ended, is open
 abbrev pub OpenLaw : {A : Type 0} → (Delivering → List (Begun A)) → (Reply → Option ℕ) → (ℕ → ℕ → Entry → Bool) → Type 0
@@ -103,11 +108,11 @@ module _ (deliveries : OpenLaw (λ d. d.deliveries) begun_delivery ends_delivery
     (made : Made) (h : History) (v : NodeView) (s : Stands v made h) (pass : ℕ) where
   pub ends_open_by : (event : Event) → EndsOpen made h pass event → ends_open v.state.edge pass event ≡ true
   ends_open_by (FetchEnd fetch outcome moment) begun =
-      ap (λ (e : EdgeView). list_any (is_named fetch pass) e.fetches) s.state.edge ∙ any_open fetch pass (world_of made h).delivering.fetches ∙ (fetches made h fetch pass).1 begun
+      ap (λ (e : EdgeView). list_any (is_named fetch pass) e.fetches) s.state.edge ∙ any_open (flight (world_of made h).delivering.starts) (λ one. (refl, refl)) fetch pass (world_of made h).delivering.fetches ∙ (fetches made h fetch pass).1 begun
   ends_open_by (RefreshEnd refresh tree moment) begun =
-      ap (λ (e : EdgeView). list_any (is_named refresh pass) e.refreshes) s.state.edge ∙ any_open refresh pass (world_of made h).delivering.refreshes ∙ (refreshes made h refresh pass).1 begun
+      ap (λ (e : EdgeView). list_any (is_named refresh pass) e.refreshes) s.state.edge ∙ any_open (refreshing (world_of made h).delivering.starts) (λ one. (refl, refl)) refresh pass (world_of made h).delivering.refreshes ∙ (refreshes made h refresh pass).1 begun
   ends_open_by (Finish delivery status total entity moment) begun =
-      ap (λ (e : EdgeView). list_any (is_named delivery pass) e.deliveries) s.state.edge ∙ any_open delivery pass (world_of made h).delivering.deliveries ∙ (deliveries made h delivery pass).1 begun
+      ap (λ (e : EdgeView). list_any (is_named delivery pass) e.deliveries) s.state.edge ∙ any_open unplaced (λ one. (refl, refl)) delivery pass (world_of made h).delivering.deliveries ∙ (deliveries made h delivery pass).1 begun
   ends_open_by (Admit asked place moment) begun = absurd begun
   ends_open_by (RefreshBegin moment) begun = absurd begun
   ends_open_by (Command spec moment) begun = absurd begun

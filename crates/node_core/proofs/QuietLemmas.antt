@@ -3,8 +3,8 @@ use Rattle.std.proofs.Common.{◌≡◌, ℕ, ◌+◌, List, [], ◌∷◌, ◌+
 use Rattle.std.proofs.lemmas.List.{append-nil}
 use Rattle.control_core.specs.Control.{ControlView}
 use Rattle.delivery_core.specs.Edge.{EdgeView}
-use Rattle.delivery_core.specs.Traces.{HasNoTriggers, edge_of, row_in}
-use Rattle.history.specs.After.{after, after_reply, cut_file, files_after, opened_by, starts_after, triggers_after}
+use Rattle.delivery_core.specs.Traces.{edge_of, row_in}
+use Rattle.history.specs.After.{after_reply, created_trigger, cut_file, files_after, opened_by, triggers_after}
 use Rattle.history.specs.Event.{Entry, History, Advance, Cancel, Delete, Lists, ReadStatus}
 use Rattle.history.specs.History.{world_of}
 use Rattle.history.specs.Reply as replies
@@ -20,23 +20,19 @@ use Rattle.trigger_status.specs.declared.job.Filter.{Filter}
 same_rows : (w : World) → map row_in (w.delivering.unfiled ++ []) ≡ map row_in w.delivering.unfiled
 same_rows w = ap (map row_in) (append-nil w.delivering.unfiled)
 
-starts_by : (w : World) (e : Entry) (r : Reply) → r ≡ reply_in w e → starts_after w e r ≡ [] → HasNoTriggers (after w e)
-unfolding after after_reply
-starts_by w e r is none = ap (λ x. starts_after w e x) (sym is) ∙ none
-
 module _ (made : Made) (h : History) (edge : EdgeView) (control : ControlView) (origin : List ℕ) (opened : ℕ) (s : Follows (state edge control origin opened) made h) where
   abbrev w : World
   w = world_of made h
 
   -- nothing changes
   quiet : (e : Entry) (r : Reply) → r ≡ reply_in w e → edge_of (after_reply w e r) ≡ edge_of w → files_after w e r ≡ w.controlling.files → cut_file r ≡ None → opened_by r ≡ 0
-      → starts_after w e r ≡ [] → triggers_after w e r ≡ [] → Says made h e r (state edge control origin opened)
-  quiet e r replied left files uncut none starts triggers =
+      → created_trigger r ≡ None → triggers_after w e r ≡ [] → Says made h e r (state edge control origin opened)
+  quiet e r replied left files uncut none uncreated triggers =
       told made h e r edge control origin opened replied
       (s.edge ∙ sym (left_by w e r (sym replied) ∙ left))
-      (s.control ∙ control_kept w e r replied files uncut) s.origin
+      (s.control ∙ control_kept w e r replied files uncut (triggers ∙ sym s.untriggered) uncreated) s.origin
       (s.opened ∙ same_opened w.counts.opened ∙ ap (λ n. w.counts.opened + n) (sym none) ∙ after_opens w e r replied)
-      (starts_by w e r replied starts) triggers
+      triggers
 
   module _ (pass id moment : ℕ) where
     advance_replied : reply.Unknown id ≡ reply_in w (pass, Advance id moment)
@@ -48,7 +44,7 @@ module _ (made : Made) (h : History) (edge : EdgeView) (control : ControlView) (
     advance_left = ap (λ rows. record (edge_of w) { unfiled = rows }) (same_rows w)
 
     pub advance_told : Says made h (pass, Advance id moment) (reply.Unknown id) (state edge control origin opened)
-    advance_told = quiet (pass, Advance id moment) (reply.Unknown id) advance_replied advance_left refl refl refl s.plain s.untriggered
+    advance_told = quiet (pass, Advance id moment) (reply.Unknown id) advance_replied advance_left refl refl refl refl s.untriggered
 
   module _ (pass id : ℕ) where
     delete_replied : reply.Unknown id ≡ reply_in w (pass, Delete id)
@@ -60,7 +56,7 @@ module _ (made : Made) (h : History) (edge : EdgeView) (control : ControlView) (
     delete_left = ap (λ rows. record (edge_of w) { unfiled = rows }) (same_rows w)
 
     pub delete_told : Says made h (pass, Delete id) (reply.Unknown id) (state edge control origin opened)
-    delete_told = quiet (pass, Delete id) (reply.Unknown id) delete_replied delete_left refl refl refl s.plain (ap (λ ts. triggers_after (record w { controlling = record w.controlling { triggers = ts } }) (pass, Delete id) (reply.Unknown id)) s.untriggered)
+    delete_told = quiet (pass, Delete id) (reply.Unknown id) delete_replied delete_left refl refl refl refl (ap (λ ts. triggers_after (record w { controlling = record w.controlling { triggers = ts } }) (pass, Delete id) (reply.Unknown id)) s.untriggered)
 
     status_replied : reply.Unknown id ≡ reply_in w (pass, ReadStatus id)
     unfolding reply_in
@@ -71,7 +67,7 @@ module _ (made : Made) (h : History) (edge : EdgeView) (control : ControlView) (
     status_left = ap (λ rows. record (edge_of w) { unfiled = rows }) (same_rows w)
 
     pub status_told : Says made h (pass, ReadStatus id) (reply.Unknown id) (state edge control origin opened)
-    status_told = quiet (pass, ReadStatus id) (reply.Unknown id) status_replied status_left refl refl refl s.plain s.untriggered
+    status_told = quiet (pass, ReadStatus id) (reply.Unknown id) status_replied status_left refl refl refl refl s.untriggered
 
   module _ (pass : ℕ) (filter : Filter) where
     list_replied : reply.Collection filter [] ≡ reply_in w (pass, Lists filter)
@@ -83,7 +79,7 @@ module _ (made : Made) (h : History) (edge : EdgeView) (control : ControlView) (
     list_left = ap (λ rows. record (edge_of w) { unfiled = rows }) (same_rows w)
 
     pub list_told : Says made h (pass, Lists filter) (reply.Collection filter []) (state edge control origin opened)
-    list_told = quiet (pass, Lists filter) (reply.Collection filter []) list_replied list_left refl refl refl s.plain s.untriggered
+    list_told = quiet (pass, Lists filter) (reply.Collection filter []) list_replied list_left refl refl refl refl s.untriggered
 
   module _ (pass moment : ℕ) where
     cancel_replied : (ids : List ℕ) → cancel_of_none ids ≡ reply_in w (pass, Cancel ids moment)
@@ -97,5 +93,5 @@ module _ (made : Made) (h : History) (edge : EdgeView) (control : ControlView) (
     cancel_left (id ∷ ids) = ap (λ rows. record (edge_of w) { unfiled = rows }) (same_rows w)
 
     pub cancel_told : (ids : List ℕ) → Says made h (pass, Cancel ids moment) (cancel_of_none ids) (state edge control origin opened)
-    cancel_told [] = quiet (pass, Cancel [] moment) (reply.Statuses []) (cancel_replied []) (cancel_left []) refl refl refl s.plain (ap (steps.cancelled moment []) s.untriggered)
-    cancel_told (id ∷ ids) = quiet (pass, Cancel (id ∷ ids) moment) (reply.Unknown id) (cancel_replied (id ∷ ids)) (cancel_left (id ∷ ids)) refl refl refl s.plain s.untriggered
+    cancel_told [] = quiet (pass, Cancel [] moment) (reply.Statuses []) (cancel_replied []) (cancel_left []) refl refl refl refl (ap (steps.cancelled moment []) s.untriggered)
+    cancel_told (id ∷ ids) = quiet (pass, Cancel (id ∷ ids) moment) (reply.Unknown id) (cancel_replied (id ∷ ids)) (cancel_left (id ∷ ids)) refl refl refl refl s.untriggered

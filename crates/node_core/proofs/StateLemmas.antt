@@ -7,11 +7,14 @@ use Rattle.cdni_base.specs.declared.asked.Asked.{Asked}
 use Rattle.control_core.specs.Control.{ControlView}
 use Rattle.control_core.specs.Control.{empty as no_files}
 use Rattle.delivery_core.proofs.Growth.{admit_grows}
+use Rattle.delivery_core.proofs.PlacedLemmas.{placed}
 use Rattle.delivery_core.proofs.Squares as squares
-use Rattle.delivery_core.specs.Edge.{EdgeView, admit_after, admit_reply, begin_after, empty, fetch_end_after, fetch_end_reply, finish_after, finish_reply, install_after, install_reply, newer, next_due, refresh_end_after, refresh_end_reply}
+use Rattle.delivery_core.specs.Edge.{EdgeView, admit_after, admit_reply, begin_after, empty, fetch_end_after, fetch_end_reply, finish_after, finish_reply, fresh_reply, install_after, install_reply, newer, next_due, refresh_end_after, refresh_end_reply}
 use Rattle.delivery_core.specs.Open.{is_named, unnamed}
-use Rattle.delivery_core.specs.Traces.{HasNoTriggers, edge_of, fetch_ended, finished, refresh_ended, reply_of}
+use Rattle.delivery_core.specs.Refreshes.{Refreshing, first_noted}
+use Rattle.delivery_core.specs.Traces.{edge_of, fetch_ended, finished, refresh_ended, reply_of}
 use Rattle.delivery_core.specs.declared.open.Open.{Open}
+use Rattle.delivery_core.specs.declared.shelf.Flight.{Flight}
 use Rattle.cdni_log.specs.declared.row.Row.{Row}
 use Rattle.history.specs.declared.begun.Admission.{Admission}
 use Rattle.delivery_core.specs.declared.results.Admitted.{Admitted}
@@ -21,12 +24,11 @@ use Rattle.delivery_core.specs.declared.results.Began.TheVariants as began
 use Rattle.delivery_core.specs.declared.results.RefreshEnded.{RefreshEnded}
 use Rattle.delivery_core.specs.declared.results.RefreshEnded.TheVariants as ended_as
 use Rattle.history.proofs.Words.{world_push}
-use Rattle.history.specs.After.{after, after_reply, cut_file, ended_fetch, ended_refresh, files_after, is_fetched, opened_by, row_of, triggers_after}
+use Rattle.history.specs.After.{after, after_reply, created_trigger, cut_file, ended_fetch, ended_refresh, files_after, is_fetched, opened_by, row_of, triggers_after}
 use Rattle.history.specs.Event.{Entry, History, Admit, FetchEnd, Finish, RefreshBegin, RefreshEnd}
 use Rattle.history.specs.History.{reply_to, world_of}
 use Rattle.history.specs.Reply.{reply_in}
-use Rattle.history.specs.World.{Filed, Made, World}
-use Rattle.history.specs.declared.begun.Fetching.{Fetching}
+use Rattle.history.specs.World.{Filed, Made, Trigger, World}
 use Rattle.history.specs.declared.reply.Reply.{Reply}
 use Rattle.history.specs.declared.reply.Reply.TheVariants as reply
 use Rattle.node_core.specs.Logs.{control_of, file_in}
@@ -49,9 +51,9 @@ triggers_by w e r is none = ap (λ x. triggers_after w e x) (sym is) ∙ none
 
 module _ (made : Made) (h : History) (e : Entry) (r : Reply) (edge : EdgeView) (control : ControlView) (origin : List ℕ) (opened : ℕ) where
   pub told : r ≡ reply_to made h e → edge ≡ edge_of (after (world_of made h) e) → control ≡ control_of (after (world_of made h) e) → origin ≡ (world_of made h).made.origin
-      → opened ≡ (after (world_of made h) e).counts.opened → HasNoTriggers (after (world_of made h) e) → triggers_after (world_of made h) e r ≡ [] → Says made h e r (state edge control origin opened)
-  told is left kept host many plain none =
-      (is, subst (λ w. IsLeft (state edge control origin opened) w) (sym (world_push made h e)) (record { edge = left; control = kept; origin = host ∙ sym (same_origin (world_of made h) e); opened = many; plain = plain; untriggered = triggers_by (world_of made h) e r is none }))
+      → opened ≡ (after (world_of made h) e).counts.opened → triggers_after (world_of made h) e r ≡ [] → Says made h e r (state edge control origin opened)
+  told is left kept host many none =
+      (is, subst (λ w. IsLeft (state edge control origin opened) w) (sym (world_push made h e)) (record { edge = left; control = kept; origin = host ∙ sym (same_origin (world_of made h) e); opened = many; untriggered = triggers_by (world_of made h) e r is none }))
 
 -- ---- log files that a call leaves alone
 
@@ -62,12 +64,18 @@ pub control_by : (w : World) (e : Entry) (r : Reply) → r ≡ reply_in w e → 
 unfolding after
 control_by w e r is = ap (λ x. control_of (after_reply w e x)) (sym is)
 
-control_same : (w : World) (e : Entry) (r : Reply) → files_after w e r ≡ w.controlling.files → cut_file r ≡ None → control_of (after_reply w e r) ≡ control_of w
+control_same : (w : World) (e : Entry) (r : Reply) → files_after w e r ≡ w.controlling.files → cut_file r ≡ None → triggers_after w e r ≡ w.controlling.triggers → created_trigger r ≡ None → control_of (after_reply w e r) ≡ control_of w
 unfolding after_reply
-control_same w e r files none = ap (λ (x : List Filed × Option ℕ). record { files = map (file_in w.made.origin) x.0; most = w.made.limits.files; filed = unwrap_or x.1 w.counts.filed }) (pair_is files none)
+control_same w e r files none triggers uncreated =
+    ap (λ (x : (List Filed × Option ℕ) × (List Trigger × Option ℕ)). record {
+      triggers = record { triggers = x.1.0; most = w.made.limits.triggers; created = unwrap_or x.1.1 w.counts.created };
+      files = map (file_in w.made.origin) x.0.0;
+      most = w.made.limits.files;
+      filed = unwrap_or x.0.1 w.counts.filed;
+    }) (pair_is (pair_is files none) (pair_is triggers uncreated))
 
-pub control_kept : (w : World) (e : Entry) (r : Reply) → r ≡ reply_in w e → files_after w e r ≡ w.controlling.files → cut_file r ≡ None → control_of w ≡ control_of (after w e)
-control_kept w e r is files none = sym (control_by w e r is ∙ control_same w e r files none)
+pub control_kept : (w : World) (e : Entry) (r : Reply) → r ≡ reply_in w e → files_after w e r ≡ w.controlling.files → cut_file r ≡ None → triggers_after w e r ≡ w.controlling.triggers → created_trigger r ≡ None → control_of w ≡ control_of (after w e)
+control_kept w e r is files none triggers uncreated = sym (control_by w e r is ∙ control_same w e r files none triggers uncreated)
 
 no_cut : (a : Admitted) → cut_file (reply_of a) ≡ None
 no_cut (admitted.Denied delivery rule) = refl
@@ -85,9 +93,31 @@ no_cut_finish delivery (Some row) = refl
 
 no_cut_refresh : (refresh : ℕ) (ended : RefreshEnded) → cut_file (refresh_ended refresh ended) ≡ None
 no_cut_refresh refresh (ended_as.Installed generation) = refl
+no_cut_refresh refresh (ended_as.Stale trigger) = refl
 no_cut_refresh refresh (ended_as.Older later) = refl
 no_cut_refresh refresh ended_as.Failed = refl
 no_cut_refresh refresh ended_as.NotOpen = refl
+
+none_created : (a : Admitted) → created_trigger (reply_of a) ≡ None
+none_created (admitted.Denied delivery rule) = refl
+none_created (admitted.Hit delivery fetch kind body) = refl
+none_created (admitted.Miss delivery fetch plan) = refl
+none_created (admitted.Full count) = refl
+
+none_created_fetch : (fetch : ℕ) (ended : Option Bool) → created_trigger (fetch_ended fetch ended) ≡ None
+none_created_fetch fetch None = refl
+none_created_fetch fetch (Some kept) = refl
+
+none_created_finish : (delivery : ℕ) (row : Option ℕ) → created_trigger (finished delivery row) ≡ None
+none_created_finish delivery None = refl
+none_created_finish delivery (Some row) = refl
+
+none_created_refresh : (refresh : ℕ) (ended : RefreshEnded) → created_trigger (refresh_ended refresh ended) ≡ None
+none_created_refresh refresh (ended_as.Installed generation) = refl
+none_created_refresh refresh (ended_as.Stale trigger) = refl
+none_created_refresh refresh (ended_as.Older later) = refl
+none_created_refresh refresh ended_as.Failed = refl
+none_created_refresh refresh ended_as.NotOpen = refl
 
 -- ---- no trigger
 
@@ -97,6 +127,7 @@ fetch_end_untriggered w pass fetch outcome moment none (Some kept) r is = ap (tr
 
 refresh_end_untriggered : (w : World) (pass refresh : ℕ) (tree : Option TreeData) (moment : ℕ) → w.controlling.triggers ≡ [] → (ended : RefreshEnded) (r : Reply) → r ≡ refresh_ended refresh ended → triggers_after w (pass, RefreshEnd refresh tree moment) r ≡ []
 refresh_end_untriggered w pass refresh tree moment none (ended_as.Installed generation) r is = ap (triggers_after w (pass, RefreshEnd refresh tree moment)) is ∙ ap (ended_refresh refresh true) none
+refresh_end_untriggered w pass refresh tree moment none (ended_as.Stale trigger) r is = ap (triggers_after w (pass, RefreshEnd refresh tree moment)) is ∙ ap (ended_refresh refresh false) none
 refresh_end_untriggered w pass refresh tree moment none (ended_as.Older later) r is = ap (triggers_after w (pass, RefreshEnd refresh tree moment)) is ∙ ap (ended_refresh refresh false) none
 refresh_end_untriggered w pass refresh tree moment none ended_as.Failed r is = ap (triggers_after w (pass, RefreshEnd refresh tree moment)) is ∙ ap (ended_refresh refresh false) none
 refresh_end_untriggered w pass refresh tree moment none ended_as.NotOpen r is = ap (triggers_after w (pass, RefreshEnd refresh tree moment)) is ∙ none
@@ -114,7 +145,7 @@ same_opened n = omega arith
 
 pub stands_at_start : (made : Made) (v : EdgeView) (control : ControlView) → v ≡ empty made.limits → control ≡ no_files made.limits → Follows (state v control made.origin 0) made []
 unfolding world_of
-stands_at_start made v control is none = record { edge = is; control = none; origin = refl; opened = refl; plain = refl; untriggered = refl }
+stands_at_start made v control is none = record { edge = is; control = none; origin = refl; opened = refl; untriggered = refl }
 
 module _ (made : Made) (h : History) (edge edge' : EdgeView) (control : ControlView) (origin : List ℕ) (opened : ℕ) (s : Follows (state edge control origin opened) made h) where
   pub admit_told : (pass : ℕ) (asked : Asked) (place : Place) (moment many : ℕ) (a : Admitted) (r : Reply) → a ≡ admit_reply edge opened asked place moment → edge' ≡ admit_after edge pass opened asked place moment
@@ -123,47 +154,47 @@ module _ (made : Made) (h : History) (edge edge' : EdgeView) (control : ControlV
       let w : World = world_of made h in
       let replied : r ≡ reply_in w (pass, Admit asked place moment) =
       answer ∙ ap reply_of is ∙ ap (λ v. reply_of (admit_reply v opened asked place moment)) s.edge ∙ ap (λ n. reply_of (admit_reply (edge_of w) n asked place moment)) s.opened
-      ∙ squares.admit_replies w s.plain pass asked place moment in
+      ∙ squares.admit_replies w pass asked place moment in
       told made h (pass, Admit asked place moment) r edge' control origin (opened + many) replied
-      (left ∙ ap (λ v. admit_after v pass opened asked place moment) s.edge ∙ ap (λ n. admit_after (edge_of w) pass n asked place moment) s.opened ∙ sym (squares.admit_leaves w s.plain pass asked place moment))
-      (s.control ∙ control_kept w (pass, Admit asked place moment) r replied refl (ap cut_file answer ∙ no_cut a)) s.origin
+      (left ∙ ap (λ v. admit_after v pass opened asked place moment) s.edge ∙ ap (λ n. admit_after (edge_of w) pass n asked place moment) s.opened ∙ sym (squares.admit_leaves w pass asked place moment (placed made h)))
+      (s.control ∙ control_kept w (pass, Admit asked place moment) r replied refl (ap cut_file answer ∙ no_cut a) refl (ap created_trigger answer ∙ none_created a)) s.origin
       (ap (λ n. n + many) s.opened ∙ ap (λ n. w.counts.opened + n) (counted ∙ sym (ap opened_by answer)) ∙ after_opens w (pass, Admit asked place moment) r replied)
-      (squares.admit_plain w s.plain pass asked place moment) s.untriggered
+      s.untriggered
 
   pub fetch_end_told : (pass fetch : ℕ) (outcome : Outcome) (moment : ℕ) (ended : Option Bool) (r : Reply) → ended ≡ fetch_end_reply edge outcome (find (is_named fetch pass) edge.fetches)
       → edge' ≡ fetch_end_after edge pass fetch outcome (find (is_named fetch pass) edge.fetches) → r ≡ fetch_ended fetch ended → Says made h (pass, FetchEnd fetch outcome moment) r (state edge' control origin opened)
   fetch_end_told pass fetch outcome moment ended r is left answer =
       let w : World = world_of made h in
-      let replied : r ≡ reply_in w (pass, FetchEnd fetch outcome moment) = answer ∙ ap (fetch_ended fetch) is ∙ ap (λ (v : EdgeView). fetch_ended fetch (fetch_end_reply v outcome (find (is_named fetch pass) v.fetches))) s.edge ∙ squares.fetch_end_replies w s.plain pass fetch outcome moment in
+      let replied : r ≡ reply_in w (pass, FetchEnd fetch outcome moment) = answer ∙ ap (fetch_ended fetch) is ∙ ap (λ (v : EdgeView). fetch_ended fetch (fetch_end_reply v outcome (find (is_named fetch pass) v.fetches))) s.edge ∙ squares.fetch_end_replies w pass fetch outcome moment in
       told made h (pass, FetchEnd fetch outcome moment) r edge' control origin opened replied
-      (left ∙ ap (λ (v : EdgeView). fetch_end_after v pass fetch outcome (find (is_named fetch pass) v.fetches)) s.edge ∙ sym (squares.fetch_end_leaves w s.plain pass fetch outcome moment))
-      (s.control ∙ control_kept w (pass, FetchEnd fetch outcome moment) r replied refl (ap cut_file answer ∙ no_cut_fetch fetch ended)) s.origin
-      (s.opened ∙ sym (squares.fetch_end_opens w s.plain pass fetch outcome moment))
-      (squares.fetch_end_plain w s.plain pass fetch outcome moment) (fetch_end_untriggered w pass fetch outcome moment s.untriggered ended r answer)
+      (left ∙ ap (λ (v : EdgeView). fetch_end_after v pass fetch outcome (find (is_named fetch pass) v.fetches)) s.edge ∙ sym (squares.fetch_end_leaves w pass fetch outcome moment))
+      (s.control ∙ control_kept w (pass, FetchEnd fetch outcome moment) r replied refl (ap cut_file answer ∙ no_cut_fetch fetch ended) (fetch_end_untriggered w pass fetch outcome moment s.untriggered ended r answer ∙ sym s.untriggered) (ap created_trigger answer ∙ none_created_fetch fetch ended)) s.origin
+      (s.opened ∙ sym (squares.fetch_end_opens w pass fetch outcome moment))
+      (fetch_end_untriggered w pass fetch outcome moment s.untriggered ended r answer)
 
   pub finish_told : (pass delivery status total entity moment : ℕ) (row : Option ℕ) (r : Reply) → row ≡ finish_reply edge (find (is_named delivery pass) edge.deliveries)
       → edge' ≡ finish_after edge pass delivery (row_of status total entity moment) (find (is_named delivery pass) edge.deliveries) → r ≡ finished delivery row
       → Says made h (pass, Finish delivery status total entity moment) r (state edge' control origin opened)
   finish_told pass delivery status total entity moment row r is left answer =
       let w : World = world_of made h in
-      let replied : r ≡ reply_in w (pass, Finish delivery status total entity moment) = answer ∙ ap (finished delivery) is ∙ ap (λ (v : EdgeView). finished delivery (finish_reply v (find (is_named delivery pass) v.deliveries))) s.edge ∙ squares.finish_replies w s.plain pass delivery status total entity moment in
+      let replied : r ≡ reply_in w (pass, Finish delivery status total entity moment) = answer ∙ ap (finished delivery) is ∙ ap (λ (v : EdgeView). finished delivery (finish_reply v (find (is_named delivery pass) v.deliveries))) s.edge ∙ squares.finish_replies w pass delivery status total entity moment in
       told made h (pass, Finish delivery status total entity moment) r edge' control origin opened replied
-      (left ∙ ap (λ (v : EdgeView). finish_after v pass delivery (row_of status total entity moment) (find (is_named delivery pass) v.deliveries)) s.edge ∙ sym (squares.finish_leaves w s.plain pass delivery status total entity moment))
-      (s.control ∙ control_kept w (pass, Finish delivery status total entity moment) r replied refl (ap cut_file answer ∙ no_cut_finish delivery row)) s.origin
-      (s.opened ∙ sym (squares.finish_opens w s.plain pass delivery status total entity moment))
-      (squares.finish_plain w s.plain pass delivery status total entity moment) s.untriggered
+      (left ∙ ap (λ (v : EdgeView). finish_after v pass delivery (row_of status total entity moment) (find (is_named delivery pass) v.deliveries)) s.edge ∙ sym (squares.finish_leaves w pass delivery status total entity moment))
+      (s.control ∙ control_kept w (pass, Finish delivery status total entity moment) r replied refl (ap cut_file answer ∙ no_cut_finish delivery row) refl (ap created_trigger answer ∙ none_created_finish delivery row)) s.origin
+      (s.opened ∙ sym (squares.finish_opens w pass delivery status total entity moment))
+      s.untriggered
 
   pub refresh_end_told : (pass refresh : ℕ) (tree : Option TreeData) (moment : ℕ) (ended : RefreshEnded) (r : Reply) → ended ≡ refresh_end_reply edge refresh tree (find (is_named refresh pass) edge.refreshes)
       → edge' ≡ refresh_end_after edge pass refresh tree (find (is_named refresh pass) edge.refreshes) → r ≡ refresh_ended refresh ended → Says made h (pass, RefreshEnd refresh tree moment) r (state edge' control origin opened)
   refresh_end_told pass refresh tree moment ended r is left answer =
       let w : World = world_of made h in
       let replied : r ≡ reply_in w (pass, RefreshEnd refresh tree moment) = answer ∙ ap (refresh_ended refresh) is ∙ ap (λ (v : EdgeView). refresh_ended refresh (refresh_end_reply v refresh tree (find (is_named refresh pass) v.refreshes))) s.edge
-      ∙ squares.refresh_end_replies w s.plain pass refresh tree moment in
+      ∙ squares.refresh_end_replies w pass refresh tree moment in
       told made h (pass, RefreshEnd refresh tree moment) r edge' control origin opened replied
-      (left ∙ ap (λ (v : EdgeView). refresh_end_after v pass refresh tree (find (is_named refresh pass) v.refreshes)) s.edge ∙ sym (squares.refresh_end_leaves w s.plain pass refresh tree moment))
-      (s.control ∙ control_kept w (pass, RefreshEnd refresh tree moment) r replied refl (ap cut_file answer ∙ no_cut_refresh refresh ended)) s.origin
-      (s.opened ∙ sym (squares.refresh_end_opens w s.plain pass refresh tree moment))
-      (squares.refresh_end_plain w s.plain pass refresh tree moment) (refresh_end_untriggered w pass refresh tree moment s.untriggered ended r answer)
+      (left ∙ ap (λ (v : EdgeView). refresh_end_after v pass refresh tree (find (is_named refresh pass) v.refreshes)) s.edge ∙ sym (squares.refresh_end_leaves w pass refresh tree moment))
+      (s.control ∙ control_kept w (pass, RefreshEnd refresh tree moment) r replied refl (ap cut_file answer ∙ no_cut_refresh refresh ended) (refresh_end_untriggered w pass refresh tree moment s.untriggered ended r answer ∙ sym s.untriggered) (ap created_trigger answer ∙ none_created_refresh refresh ended)) s.origin
+      (s.opened ∙ sym (squares.refresh_end_opens w pass refresh tree moment))
+      (refresh_end_untriggered w pass refresh tree moment s.untriggered ended r answer)
 
   due_is : (moment : ℕ) (next : Option ℕ) → next ≡ next_due edge moment → next_due (edge_of (world_of made h)) moment ≡ next
   due_is moment next is = sym (is ∙ ap (λ v. next_due v moment) s.edge)
@@ -174,34 +205,34 @@ module _ (made : Made) (h : History) (edge edge' : EdgeView) (control : ControlV
   pub not_due_told : (pass moment next : ℕ) → Some next ≡ next_due edge moment → Says made h (pass, RefreshBegin moment) (reply.NotDue next) (state edge control origin opened)
   not_due_told pass moment next is =
       let w : World = world_of made h in
-      let replied = squares.not_due_replies w s.plain pass moment next (due_is moment (Some next) is) in
+      let replied = squares.not_due_replies w pass moment next (due_is moment (Some next) is) in
       told made h (pass, RefreshBegin moment) (reply.NotDue next) edge control origin opened (sym replied)
-      (s.edge ∙ sym (squares.not_due_leaves w s.plain pass moment next) ∙ sym (left_by w (pass, RefreshBegin moment) (reply.NotDue next) replied))
-      (s.control ∙ control_kept w (pass, RefreshBegin moment) (reply.NotDue next) (sym replied) refl refl) s.origin
+      (s.edge ∙ sym (squares.not_due_leaves w pass moment next) ∙ sym (left_by w (pass, RefreshBegin moment) (reply.NotDue next) replied))
+      (s.control ∙ control_kept w (pass, RefreshBegin moment) (reply.NotDue next) (sym replied) refl refl refl refl) s.origin
       (s.opened ∙ same_opened w.counts.opened ∙ after_opens w (pass, RefreshBegin moment) (reply.NotDue next) (sym replied))
-      (squares.begin_plain w s.plain pass moment) s.untriggered
+      s.untriggered
 
   pub full_told : (pass moment : ℕ) → None ≡ next_due edge moment → (opened == edge.limits.opened) ≡ true → Says made h (pass, RefreshBegin moment) (reply.Full opened) (state edge control origin opened)
   full_told pass moment is full =
       let w : World = world_of made h in
-      let replied = squares.full_replies w s.plain pass moment (due_is moment None is) (full_is true full) in
+      let replied = squares.full_replies w pass moment (due_is moment None is) (full_is true full) in
       told made h (pass, RefreshBegin moment) (reply.Full opened) edge control origin opened (ap (λ n. reply.Full n) s.opened ∙ sym replied)
-      (s.edge ∙ sym (squares.full_leaves w s.plain pass moment w.counts.opened) ∙ sym (left_by w (pass, RefreshBegin moment) (reply.Full w.counts.opened) replied))
-      (s.control ∙ control_kept w (pass, RefreshBegin moment) (reply.Full w.counts.opened) (sym replied) refl refl) s.origin
+      (s.edge ∙ sym (squares.full_leaves w pass moment w.counts.opened) ∙ sym (left_by w (pass, RefreshBegin moment) (reply.Full w.counts.opened) replied))
+      (s.control ∙ control_kept w (pass, RefreshBegin moment) (reply.Full w.counts.opened) (sym replied) refl refl refl refl) s.origin
       (s.opened ∙ same_opened w.counts.opened ∙ after_opens w (pass, RefreshBegin moment) (reply.Full w.counts.opened) (sym replied))
-      (squares.begin_plain w s.plain pass moment) s.untriggered
+      s.untriggered
 
   pub due_told : (pass moment refresh : ℕ) → None ≡ next_due edge moment → (opened == edge.limits.opened) ≡ false → refresh ≡ edge.refreshed + 1 → edge' ≡ begin_after edge pass moment (began.Due refresh)
       → Says made h (pass, RefreshBegin moment) (reply.Due refresh) (state edge' control origin (opened + 1))
   due_told pass moment refresh is full number left =
       let w : World = world_of made h in
       let numbered : refresh ≡ w.counts.refreshed + 1 = number ∙ ap (λ (v : EdgeView). v.refreshed + 1) s.edge in
-      let replied = squares.due_replies w s.plain pass moment (due_is moment None is) (full_is false full) ∙ ap (λ n. reply.Due n) (sym numbered) in
+      let replied = squares.due_replies w pass moment (due_is moment None is) (full_is false full) ∙ ap (λ n. reply.Due n) (sym numbered) in
       told made h (pass, RefreshBegin moment) (reply.Due refresh) edge' control origin (opened + 1) (sym replied)
-      (left ∙ ap (λ v. begin_after v pass moment (began.Due refresh)) s.edge ∙ sym (squares.due_leaves w s.plain pass moment refresh) ∙ sym (left_by w (pass, RefreshBegin moment) (reply.Due refresh) replied))
-      (s.control ∙ control_kept w (pass, RefreshBegin moment) (reply.Due refresh) (sym replied) refl refl) s.origin
+      (left ∙ ap (λ v. begin_after v pass moment (began.Due refresh)) s.edge ∙ sym (squares.due_leaves w pass moment (placed made h) refresh) ∙ sym (left_by w (pass, RefreshBegin moment) (reply.Due refresh) replied))
+      (s.control ∙ control_kept w (pass, RefreshBegin moment) (reply.Due refresh) (sym replied) refl refl refl refl) s.origin
       (ap (λ n. n + 1) s.opened ∙ after_opens w (pass, RefreshBegin moment) (reply.Due refresh) (sym replied))
-      (squares.begin_plain w s.plain pass moment) s.untriggered
+      s.untriggered
 
 due_of : Began → ℕ
 due_of (began.Due refresh) = refresh
@@ -218,7 +249,7 @@ pub sound_at_start : (limits : Bounds) (v : EdgeView) (control : ControlView) �
 sound_at_start limits v control range is none = rw (is, none) (record { begun = omega arith; fetched = omega arith; few = omega arith; limit = range.opened.1; most = refl })
 
 module _ (edge : EdgeView) (control : ControlView) (opened : ℕ) (s : IsSound edge control opened) where
-  pub sound_fetch_end : (pass fetch : ℕ) (outcome : Outcome) (found : Option (Open Fetching)) → IsSound (fetch_end_after edge pass fetch outcome found) control opened
+  pub sound_fetch_end : (pass fetch : ℕ) (outcome : Outcome) (found : Option (Open Flight)) → IsSound (fetch_end_after edge pass fetch outcome found) control opened
   sound_fetch_end pass fetch outcome None = s
   sound_fetch_end pass fetch outcome (Some flight) = record { begun = s.begun; fetched = s.fetched; few = s.few; limit = s.limit; most = s.most }
 
@@ -231,10 +262,15 @@ module _ (edge : EdgeView) (control : ControlView) (opened : ℕ) (s : IsSound e
   sound_install pass refresh moment brought None = record { begun = s.begun; fetched = s.fetched; few = s.few; limit = s.limit; most = s.most }
   sound_install pass refresh moment brought (Some later) = record { begun = s.begun; fetched = s.fetched; few = s.few; limit = s.limit; most = s.most }
 
-  pub sound_refresh_end : (pass refresh : ℕ) (tree : Option TreeData) (found : Option (Open ℕ)) → IsSound (refresh_end_after edge pass refresh tree found) control opened
+  sound_fresh : (pass refresh moment : ℕ) (brought : TreeData) (hit : Option ℕ)
+      → IsSound (install_after (record edge { refreshes = unnamed refresh pass edge.refreshes }) refresh brought moment (fresh_reply edge refresh hit)) control opened
+  sound_fresh pass refresh moment brought (Some trigger) = record { begun = s.begun; fetched = s.fetched; few = s.few; limit = s.limit; most = s.most }
+  sound_fresh pass refresh moment brought None = sound_install pass refresh moment brought (newer edge refresh)
+
+  pub sound_refresh_end : (pass refresh : ℕ) (tree : Option TreeData) (found : Option (Open Refreshing)) → IsSound (refresh_end_after edge pass refresh tree found) control opened
   sound_refresh_end pass refresh tree None = s
   sound_refresh_end pass refresh None (Some begun) = record { begun = s.begun; fetched = s.fetched; few = s.few; limit = s.limit; most = s.most }
-  sound_refresh_end pass refresh (Some brought) (Some begun) = sound_install pass refresh begun.what brought (newer edge refresh)
+  sound_refresh_end pass refresh (Some brought) (Some begun) = sound_fresh pass refresh begun.what.moment brought (first_noted brought.resources begun.what.since)
 
   sound_due : (pass moment : ℕ) → (opened == edge.limits.opened) ≡ false → IsSound (begin_after edge pass moment (began.Due (edge.refreshed + 1))) control (opened + 1)
   sound_due pass moment room =

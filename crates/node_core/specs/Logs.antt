@@ -1,4 +1,4 @@
--- What a history leaves of the log files, and the replies that speak of them.
+-- What a history leaves of triggers and log files, and the replies that speak of files.
 use Rattle.std.specs.Prelude.{ℕ, Bool, true, false, List, map, None, Some}
 use Rattle.std.specs.declared.option.Option.{Option}
 use Rattle.cdni_log.specs.File.{file_text}
@@ -17,6 +17,11 @@ file_in origin filed = record {
 
 abbrev pub control_of : World → ControlView
 control_of w = record {
+  triggers = record {
+    triggers = w.controlling.triggers;
+    most = w.made.limits.triggers;
+    created = w.counts.created;
+  };
   files = map (file_in w.made.origin) w.controlling.files;
   most = w.made.limits.files;
   filed = w.counts.filed;

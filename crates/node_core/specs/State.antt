@@ -3,7 +3,7 @@ use Rattle.std.specs.Prelude.{◌≡◌, ℕ, ◌+◌, ◌<◌, ◌≤◌, ◌^�
 use Rattle.std.specs.List.{list_any}
 use Rattle.control_core.specs.Control.{ControlView}
 use Rattle.delivery_core.specs.Edge.{EdgeView}
-use Rattle.delivery_core.specs.Traces.{edge_of, HasNoTriggers}
+use Rattle.delivery_core.specs.Traces.{edge_of}
 use Rattle.delivery_core.specs.Open.{is_named}
 use Rattle.delivery_core.specs.OpenCount.{open_count}
 use Rattle.history.specs.Event.{Entry, Event, History, FetchEnd, Finish, RefreshEnd}
@@ -34,7 +34,6 @@ pub record IsLeft (v : StateView) (w : World) : Type 0 where
   pub control : v.control ≡ control_of w
   pub origin : v.origin ≡ w.made.origin
   pub opened : v.opened ≡ w.counts.opened
-  pub plain : HasNoTriggers w
   pub untriggered : w.controlling.triggers ≡ []
 
 -- the state is what the history leaves of a node that is made so

@@ -396,6 +396,7 @@ fn reply_of_refresh(refresh: u64, ended: RefreshEnded) -> Reply
 {
     match ended {
         RefreshEnded::Installed { generation } => Reply::Installed { generation },
+        RefreshEnded::Stale { trigger } => Reply::Stale { trigger },
         RefreshEnded::Older { refresh } => Reply::Older { refresh },
         RefreshEnded::Failed => Reply::Failed,
         RefreshEnded::NotOpen => Reply::NotOpen { number: refresh },

@@ -439,7 +439,7 @@ impl Edge {
         }
     }
 
-    /// An invalidate or a purge becomes active (RFC 8007, section 4.1): what its selection hits is no longer kept, of the
+    /// An invalidate or a purge becomes active (RFC 8007, section 5.2.2): what its selection hits is no longer kept, of the
     /// open fetches that it hits nothing will be, and the installed metadata and that of the open refreshes is invalid
     /// where it hits one of the documents.
     ///

@@ -1,5 +1,6 @@
 //! The side of the core that delivers: the installed metadata, what is kept of fetches, the deliveries, fetches and
-//! refreshes that are open, and the rows of finished deliveries. It sees no history: its value is what a history leaves of these, without positions.
+//! refreshes that are open, the rows of finished deliveries, and what starts of triggers do to these. It sees no history:
+//! its value is what a history leaves of these, without positions.
 #![tactic(auto)]
 
 mod decision;

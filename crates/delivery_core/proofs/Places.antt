@@ -19,8 +19,11 @@ module _ (edge : EdgeView) (pass : ℕ) where
   entered_places what (decision.Deny rule) = omega (arith, length-append edge.deliveries (record { number = edge.delivered + 1; pass = pass; what = what } ∷ []))
   entered_places what (decision.Hit key ccid found) = omega (arith, length-append edge.deliveries (record { number = edge.delivered + 1; pass = pass; what = record what { ccid = ccid; cached = true } } ∷ []))
   entered_places what (decision.Miss key ccid plan) =
-      omega (arith, length-append edge.deliveries (record { number = edge.delivered + 1; pass = pass; what = record what { ccid = ccid; cached = false } } ∷ []),
-      length-append edge.fetches (record { number = edge.fetched + 1; pass = pass; what = record { fetching = record { key = key; ccid = ccid }; hit = false } } ∷ []))
+      omega (
+        arith,
+        length-append edge.deliveries (record { number = edge.delivered + 1; pass = pass; what = record what { ccid = ccid; cached = false } } ∷ []),
+        length-append edge.fetches (record { number = edge.fetched + 1; pass = pass; what = record { fetching = record { key = key; ccid = ccid }; hit = false } } ∷ []),
+      )
 
   admitted_places : (what : Admission) (d : Decision) (full : Option ℕ) → open_count (admit_after_by edge pass what d full) ≤ open_count edge + begun_count (reply_of (admit_reply_by edge d full))
   admitted_places what d (Some count) = omega arith

@@ -1,3 +1,7 @@
+use Rattle.std.specs.List.{find}
+use Rattle.std.specs.Option.{option_map}
+use Rattle.delivery_core.specs.Open.{is_named}
+use Rattle.metadata_objects.specs.Tree.{tree_view}
 use Rattle.node_core.proofs.EndLemmas.{refresh_ends}
 use Rattle.node_core.proofs.StateLemmas.{refresh_end_told, sound_refresh_end}
 use Rattle.node_core.proofs.state.State.refresh_end.Goals as goal
@@ -7,7 +11,10 @@ returns-clause-told c = λ made h moment s. refresh_end_told made h c.self.insid
     c.refresh_end-ended.ensures.reply c.refresh_end-ended.ensures.after c.reply_of_refresh.ensures
 
 pub invariant_of-self : goal.invariant_of-self
-invariant_of-self c = rw c.refresh_end-ended.ensures.after (sound_refresh_end c.self.inside.edge c.self.inside.control c.self.inside.opened c.self.invariant c.args.pass c.args.refresh _ _)
+invariant_of-self c =
+    let edge = c.self.inside.edge in
+    rw c.refresh_end-ended.ensures.after
+    (sound_refresh_end edge c.self.inside.control c.self.inside.opened c.self.invariant c.args.pass c.args.refresh (option_map tree_view c.args.tree) (find (is_named c.args.refresh c.args.pass) edge.refreshes))
 
 pub returns-clause-ends : goal.returns-clause-ends
 returns-clause-ends c = rw (← c.self.view_is) (refresh_ends c.self.inside.edge _ c.self.inside.control c.self.inside.origin c.self.inside.opened c.args.pass c.args.refresh _ _ _

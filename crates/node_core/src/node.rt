@@ -32,6 +32,7 @@ pub struct Node {
     state: State,
     journal: Journal<Entered>,
     places: usize,
+    reserved: usize,
 }
 
 impl Model for Node {
@@ -59,7 +60,8 @@ impl Model for Node {
       stored = map entry_of n.journal.stored;
     } };
 
-    ghost invariant = { λ n. (open_count n.state.edge ≤ n.places) × (n.places ≤ n.journal.spare) };
+    ghost invariant = { λ n. (open_count n.state.edge ≤ n.places) × (n.places ≤ n.reserved)
+        × (n.reserved ≤ n.journal.spare) };
 }
 
 impl Node {
@@ -76,6 +78,7 @@ impl Node {
             state: State::new(alloc, limits, origin)?,
             journal: Journal::new(alloc)?,
             places: 0,
+            reserved: 0,
         })
     }
 
@@ -137,8 +140,15 @@ impl Node {
             call: stripped(&call),
         };
         let reply = self.state.end(pass, call);
-        take_place(alloc, &mut self.journal, &mut self.places, &reply)?;
+        take_place(
+            alloc,
+            &mut self.journal,
+            &mut self.reserved,
+            &mut self.places,
+            &reply,
+        )?;
         self.journal.push_reserved(entry);
+        self.reserved -= 1;
         Ok(reply)
     }
 
@@ -152,7 +162,7 @@ impl Node {
         ensures made { self.new.made ≡ self.old.made }
         ensures err { OnErr result (self.new ≡ self.old) }
     {
-        reserve(alloc, &mut self.journal, self.places, 3)?;
+        reserve(alloc, &mut self.journal, &mut self.reserved, self.places, 3)?;
         let entry = Entered {
             pass,
             call: copied(alloc, &call)?,
@@ -160,6 +170,7 @@ impl Node {
         let reply = self.state.call(alloc, pass, call)?;
         self.places += begun_count(&reply);
         self.journal.push_reserved(entry);
+        self.reserved -= 1;
         Ok(reply)
     }
 }
@@ -168,38 +179,71 @@ impl Node {
 fn reserve(
     alloc: Global,
     journal: &mut Journal<Entered>,
+    reserved: &mut usize,
     places: usize,
     more: usize,
 ) -> Result<(), AllocError>
-    ensures places { OnOk result (places + more ≤ journal.new.spare) }
+    requires { reserved.old ≤ journal.old.spare }
+    ensures places { OnOk result (places + more ≤ reserved.new) }
     ensures fits { OnOk result (places + more < 2 ^ 64) }
-    ensures no_fewer { journal.old.spare ≤ journal.new.spare }
+    ensures no_fewer { reserved.old ≤ reserved.new }
+    ensures within { reserved.new ≤ journal.new.spare }
     ensures stored { journal.new.stored ≡ journal.old.stored }
 {
     let Some(wanted) = places.checked_add(more) else {
         return Err(AllocError);
     };
-    journal.reserve(alloc, wanted)
+    if wanted <= *reserved {
+        return Ok(());
+    }
+    grow(alloc, journal, reserved, wanted)
+}
+
+// reserves so many places, and as many again where there is memory, so that few calls take any
+fn grow(
+    alloc: Global,
+    journal: &mut Journal<Entered>,
+    reserved: &mut usize,
+    wanted: usize,
+) -> Result<(), AllocError>
+    requires fewer { reserved.old < wanted }
+    requires within { reserved.old ≤ journal.old.spare }
+    ensures places { OnOk result (wanted ≤ reserved.new) }
+    ensures no_fewer { reserved.old ≤ reserved.new }
+    ensures within { reserved.new ≤ journal.new.spare }
+    ensures stored { journal.new.stored ≡ journal.old.stored }
+{
+    let twice = wanted.saturating_mul(2);
+    if journal.reserve(alloc, twice).is_ok() {
+        *reserved = twice;
+        return Ok(());
+    }
+    journal.reserve(alloc, wanted)?;
+    *reserved = wanted;
+    Ok(())
 }
 
 // the place of an end that is answered so: that of what has ended, or one more
 fn take_place(
     alloc: Global,
     journal: &mut Journal<Entered>,
+    reserved: &mut usize,
     places: &mut usize,
     reply: &Reply,
 ) -> Result<(), AllocError>
     requires one { is_not_open reply.now ≡ false → 0 < places.old }
-    requires within { places.old ≤ journal.old.spare }
+    requires placed { places.old ≤ reserved.old }
+    requires within { reserved.old ≤ journal.old.spare }
     ensures freed { is_not_open reply.now ≡ false → places.new + 1 ≡ places.old }
     ensures same { is_not_open reply.now ≡ true → places.new ≡ places.old }
-    ensures room { OnOk result (places.new < journal.new.spare) }
-    ensures within { places.new ≤ journal.new.spare }
+    ensures room { OnOk result (places.new < reserved.new) }
+    ensures placed { places.new ≤ reserved.new }
+    ensures within { reserved.new ≤ journal.new.spare }
     ensures stored { journal.new.stored ≡ journal.old.stored }
     ensures open { is_not_open reply.now ≡ false → IsOk result }
 {
     match reply {
-        Reply::NotOpen { .. } => reserve(alloc, journal, *places, 1),
+        Reply::NotOpen { .. } => reserve(alloc, journal, reserved, *places, 1),
         _ => {
             *places -= 1;
             Ok(())

@@ -3,7 +3,7 @@ use Rattle.node_core.proofs.NodeLemmas.{none_open, origin_at_start}
 use Rattle.node_core.proofs.node.Node.new.Goals as goal
 
 pub invariant_of-result : goal.invariant_of-result
-invariant_of-result c = (none_open _ _ c.in_ok-new.ensures, omega arith)
+invariant_of-result c = (none_open _ _ c.in_ok-new.ensures, omega arith, omega arith)
 
 pub returns-clause-made : goal.returns-clause-made
 returns-clause-made c = ap (λ o. record { limits = c.args.limits.now; origin = o }) (origin_at_start _ _ c.in_ok-new.ensures)

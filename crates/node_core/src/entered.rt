@@ -2,7 +2,7 @@
 
 ghost use Rattle.std.specs.Prelude.{◌≡◌, IfOk, true, false};
 ghost use Rattle.history.specs.Event.{event_of};
-ghost use Rattle.node_core.specs.Call.{is_command, is_end, stripped_event};
+ghost use Rattle.node_core.specs.Call.{is_end, stripped_event};
 
 use history::Call;
 use std::alloc::{AllocError, Global};
@@ -68,8 +68,7 @@ pub(crate) fn stripped(call: &Call) -> Call
 
 // a copy of a call that ends nothing
 pub(crate) fn copied(alloc: Global, call: &Call) -> Result<Call, AllocError>
-    requires ends { is_end (event_of call.now) ≡ false }
-    requires commands { is_command (event_of call.now) ≡ false }
+    requires { is_end (event_of call.now) ≡ false }
     ensures { IfOk result (λ copy. event_of copy ≡ stripped_event (event_of call.now)) }
 {
     match call {
@@ -83,6 +82,10 @@ pub(crate) fn copied(alloc: Global, call: &Call) -> Result<Call, AllocError>
             moment: *moment,
         }),
         Call::RefreshBegin { moment } => Ok(Call::RefreshBegin { moment: *moment }),
+        Call::Command { spec, moment } => Ok(Call::Command {
+            spec: spec.clone()?,
+            moment: *moment,
+        }),
         Call::Advance { id, moment } => Ok(Call::Advance {
             id: *id,
             moment: *moment,

@@ -4,7 +4,7 @@ ghost use Rattle.std.specs.Prelude.{◌≡◌, ◌+◌, ◌^◌, ◌<◌, ◌≤
 ghost use Rattle.history.specs.Event.{History, event_of};
 ghost use Rattle.history.specs.World.{Made};
 ghost use Rattle.node_core.specs.Answers.{answers};
-ghost use Rattle.node_core.specs.Call.{is_command, is_end};
+ghost use Rattle.node_core.specs.Call.{is_end};
 ghost use Rattle.delivery_core.specs.OpenCount.{begun_count};
 ghost use Rattle.node_core.specs.State.{ends_open, is_not_open};
 ghost use Rattle.node_core.specs.Home.{EndsOpen};
@@ -90,7 +90,6 @@ impl Node {
     /// Want of memory, but for the end of a fetch, of a refresh or of a delivery that the pass has open, which takes none.
     /// The node is then as before, and what the call carried is lost.
     pub fn call(&mut self, alloc: Global, pass: u32, call: Call) -> Result<Reply, AllocError>
-        requires { is_command (event_of call) ≡ false }
         ensures told { (made : Made) (h : History) → Stands self.old made h
             → IfOk result (λ r. Tells made h (pass, event_of call) r self.new) }
         ensures lawful { (made : Made) (h : History) → Stands self.old made h
@@ -110,7 +109,6 @@ impl Node {
     }
 
     fn take_in(&mut self, alloc: Global, pass: u32, call: Call) -> Result<Reply, AllocError>
-        requires { is_command (event_of call) ≡ false }
         ensures told { (made : Made) (h : History) → Stands self.old made h
             → IfOk result (λ r. Tells made h (pass, event_of call) r self.new) }
         ensures kind { IfOk result (λ r. answers (event_of call) r ≡ true) }
@@ -154,8 +152,7 @@ impl Node {
 
     // another call: what it opens has its places
     fn begin(&mut self, alloc: Global, pass: u32, call: Call) -> Result<Reply, AllocError>
-        requires ends { is_end (event_of call) ≡ false }
-        requires commands { is_command (event_of call) ≡ false }
+        requires { is_end (event_of call) ≡ false }
         ensures told { (made : Made) (h : History) → Stands self.old made h
             → IfOk result (λ r. Tells made h (pass, event_of call) r self.new) }
         ensures kind { IfOk result (λ r. answers (event_of call) r ≡ true) }
@@ -257,7 +254,11 @@ fn begun_count(reply: &Reply) -> usize
     ensures few { result ≤ 2 }
 {
     match reply {
-        Reply::Denied { .. } | Reply::Hit { .. } | Reply::Due { .. } => 1,
+        Reply::Denied { .. }
+        | Reply::Hit { .. }
+        | Reply::Due { .. }
+        | Reply::Fetch { .. }
+        | Reply::Refresh { .. } => 1,
         Reply::Miss { .. } => 2,
         _ => 0,
     }

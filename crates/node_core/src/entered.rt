@@ -5,6 +5,7 @@ ghost use Rattle.history.specs.Event.{event_of};
 ghost use Rattle.node_core.specs.Call.{is_end, stripped_event};
 
 use history::Call;
+use listing::Listing;
 use std::alloc::{AllocError, Global};
 use upstream_gate::Outcome;
 
@@ -91,7 +92,7 @@ pub(crate) fn copied(alloc: Global, call: &Call) -> Result<Call, AllocError>
             moment: *moment,
         }),
         Call::Cancel { ids, moment } => Ok(Call::Cancel {
-            ids: ids.clone()?,
+            ids: copy_of(ids)?,
             moment: *moment,
         }),
         Call::Delete { id } => Ok(Call::Delete { id: *id }),
@@ -103,4 +104,10 @@ pub(crate) fn copied(alloc: Global, call: &Call) -> Result<Call, AllocError>
         Call::DropLog { number } => Ok(Call::DropLog { number: *number }),
         _ => unreachable!(),
     }
+}
+
+fn copy_of(ids: &Listing<u64>) -> Result<Listing<u64>, AllocError>
+    ensures { IfOk result (λ copy. copy ≡ ids.now) }
+{
+    Ok(ids.clone()?)
 }

@@ -12,11 +12,9 @@ ghost use Rattle.node_core.specs.Law.{IsLawful};
 ghost use Rattle.node_core.specs.Node.{Stands, Tells};
 
 use crate::entered::{Entered, copied, is_end, stripped};
+use crate::law::every_answer_is_lawful;
 use crate::state::State;
 use cdni_base::{Limits, Text};
-use delivery_law::fetches::{a_hit_gives_what_one_fetch_brought, a_miss_begins_its_own_fetch};
-use delivery_law::log_rows::each_row_belongs_to_one_finish_and_one_admit;
-use delivery_law::metadata::an_admission_uses_metadata_that_no_start_has_hit;
 use history::laws::what_is_open_has_begun_and_not_ended;
 use history::{Call, Reply};
 use journal::Journal;
@@ -100,10 +98,7 @@ impl Node {
             → IsOk result }
         ensures err { OnErr result (self.new ≡ self.old) }
     {
-        a_hit_gives_what_one_fetch_brought();
-        a_miss_begins_its_own_fetch();
-        an_admission_uses_metadata_that_no_start_has_hit();
-        each_row_belongs_to_one_finish_and_one_admit();
+        every_answer_is_lawful();
         what_is_open_has_begun_and_not_ended();
         self.take_in(alloc, pass, call)
     }

@@ -1,6 +1,6 @@
 //! The calls of triggers (RFC 8007): commands, their steps, cancels and deletes, and what reads them.
 
-ghost use Rattle.std.specs.Prelude.{◌≡◌, ◌+◌, ◌≤◌, ◌^◌, ℕ, IfOk, OnErr, OnOk};
+ghost use Rattle.std.specs.Prelude.{◌≡◌, ◌+◌, ◌≤◌, ◌^◌, ℕ, true, IfOk, OnErr, OnOk};
 ghost use Rattle.std.specs.Option.{option_map};
 ghost use Rattle.delivery_core.specs.OpenCount.{begun_count, open_count};
 ghost use Rattle.history.specs.Event.{History, Command, Advance, Cancel, Delete, ReadStatus, Lists};
@@ -15,7 +15,7 @@ ghost use Rattle.trigger_table.specs.declared.step.Step.TheVariants as step;
 
 use crate::state::State;
 use cdni_base::{Moment, Target};
-use delivery_core::{Began, Edge};
+use delivery_core::{Began, Edge, Planned};
 use history::Reply;
 use std::alloc::{AllocError, Global};
 use trigger_command::{IdList, Spec, TriggerKind};
@@ -164,13 +164,13 @@ impl State {
         }
         let planned = self.edge.plan(alloc, pass, &target)?;
         match planned {
-            Some(planned) => {
+            Some(Planned { fetch, plan }) => {
                 self.control.step_done(id, pass, moment);
-                self.control.step_opened(id, planned.fetch);
+                self.control.step_opened(id, fetch);
                 self.opened += 1;
                 Ok(Reply::Fetch {
-                    fetch: planned.fetch,
-                    plan: planned.plan,
+                    fetch,
+                    plan,
                     target,
                 })
             }
@@ -310,7 +310,9 @@ fn reply_of_status(id: u64, job: Option<&Job>) -> Result<Reply, AllocError>
     ensures { IfOk result (λ r. r ≡ status_reply id (option_map (λ j. j.now) job.entry)) }
 {
     match job {
-        Some(job) => Ok(Reply::Resource { job: job.clone()? }),
+        Some(job) => Ok(Reply::Resource {
+            job: job.clone()?,
+        }),
         None => Ok(Reply::Unknown { id }),
     }
 }

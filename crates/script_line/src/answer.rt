@@ -1,13 +1,13 @@
 //! The answer lines of a script.
 
-ghost use Rattle.std.specs.Prelude.{◌≡◌, ◌++◌, ◌∷◌, [], IfOk, OnOk, codes, decimal, option_map};
+ghost use Rattle.std.specs.Prelude.{◌≡◌, ◌≢◌, ◌++◌, ◌∷◌, [], IfOk, OnOk, codes, decimal, option_map};
 ghost use Rattle.std.specs.List.{flat_map};
 ghost use Rattle.cdni_base.specs.Rule.{rule_status, rule_text};
 ghost use Rattle.script_line.specs.declared.grammar.TheConstants.{SPACE};
 ghost use Rattle.script_line.specs.declared.answer.TheConstants.{LINE_FEED};
 ghost use Rattle.hex.specs.Hex.{encode_lower};
 ghost use Rattle.trigger_status.specs.Job.{job_text, status_name};
-ghost use Rattle.script_line.specs.Answer.{kind_word, body_word, more_number, more_status, numbers_word, log_text, ended_text, numbered, endpoint_word, plan_text, cause_text, fault_text, failed_line, fetch_line, statuses_word, scripted_collection, trigger_line, answer_line};
+ghost use Rattle.script_line.specs.Answer.{kind_word, body_word, more_number, more_status, numbers_word, log_text, ended_text, numbered, endpoint_word, plan_text, cause_text, fault_text, failed_line, fetch_line, statuses_word, scripted_collection, trigger_line, refused_line, answer_line};
 
 use crate::own::{control_host, own_id};
 use cdni_base::{Endpoint, HTTP_PORT, Rule, Target, Text};
@@ -16,7 +16,7 @@ use itoa::Buffer;
 use json_read::{FieldCause, FieldFault};
 use metadata_objects::MetaFault;
 use std::alloc::{AllocError, Global};
-use trigger_command::IdList;
+use trigger_command::{CommandFault, IdList};
 use trigger_status::{Filter, Job, JobStatus, collection_json, job_json};
 
 /// The byte that ends a line.
@@ -82,6 +82,19 @@ pub fn put_reply_line(
         Reply::Dropped => put(out, b"dropped\n"),
         _ => put_of_trigger(alloc, out, reply),
     }
+}
+
+/// Adds the line by which a command of this fault is refused, with its line feed.
+///
+/// # Errors
+/// Want of memory; then a part of the line may have been added.
+pub fn put_refusal(alloc: Global, out: &mut Vec<u8>, fault: &CommandFault) -> Result<(), AllocError>
+    requires { fault.now ≢ CommandFault.Memory }
+    ensures { OnOk result (out.new.items ≡ out.old.items ++ refused_line fault.now) }
+{
+    let refusal = fault.text(alloc)?;
+    put(out, refusal.bytes())?;
+    put(out, b"\n")
 }
 
 // adds the answer line of a reply that speaks of triggers

@@ -1,7 +1,7 @@
 //! What a line of a script says.
 
-ghost use Rattle.std.specs.Prelude.{◌≡◌, ◌<◌, ◌≤◌, List, ℕ, IfOk, length, option_map};
-ghost use Rattle.std.specs.List.{list_all};
+ghost use Rattle.std.specs.Prelude.{◌≡◌, ◌==◌, ◌<◌, ◌≤◌, List, ℕ, IfOk, IfSome, length, option_map};
+ghost use Rattle.std.specs.List.{list_all, position};
 ghost use Rattle.metadata_objects.specs.Host.{host_index_of_text};
 ghost use Rattle.listing.specs.Number.{number_of};
 ghost use Rattle.listing.specs.Word.{parts_at};
@@ -67,10 +67,22 @@ fn read_words(alloc: Global, line: &[u8]) -> Result<ScriptLine, ScriptFault>
 }
 
 // the next word, and what stands after the space behind it
+#[tactic(auto, unfolding(listing::specs::Word::parts_at))]
 fn cut(text: &[u8]) -> Result<(&[u8], &[u8]), ScriptFault>
     ensures { Gives (λ parts. (parts.0.now, parts.1.now)) result (parts_at SPACE text.now) }
 {
-    cut_at(SPACE, text).ok_or(ScriptFault::NotALine)
+    match space_in(text) {
+        Some(place) => Ok((&text[..place], &text[place + 1..])),
+        None => Err(ScriptFault::NotALine),
+    }
+}
+
+// where the first space is; words are short, so they are looked at byte by byte
+fn space_in(text: &[u8]) -> Option<usize>
+    ensures place { result ≡ position (λ x. x == SPACE) text.now }
+    ensures within { IfSome result (λ place. place < length text.now) }
+{
+    text.iter().position(|byte| *byte == SPACE)
 }
 
 // PASS MOMENT and a call, where the pass is read: its text, and what follows it

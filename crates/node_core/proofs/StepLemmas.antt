@@ -111,18 +111,18 @@ there_by t (Waits number) item place is none = absurd (cc)
 there_by t Starts item place is none = absurd (cc)
 there_by t Refreshes item place is none = absurd (cc)
 there_by t (Fetches at found) item place is none = some_there found (same_place at place is) item none
-    where
-      place_of : Step → ℕ
-      place_of (step.Url at) = at
-      place_of other = 0
+  where
+    place_of : Step → ℕ
+    place_of (step.Url at) = at
+    place_of other = 0
 
-      same_place : (at place : ℕ) → step.Url at ≡ step.Url place → at ≡ place
-      same_place at place is = ap place_of is
+    same_place : (at place : ℕ) → step.Url at ≡ step.Url place → at ≡ place
+    same_place at place is = ap place_of is
 
-      some_there : (found : UrlItem) → at ≡ place → slice_get t.job.spec.selection.content_urls at ≡ Some found → url_of place (Some t.job) ≡ None → ⊥
-      some_there found is item none =
-          let some : url_of place (Some t.job) ≡ Some found.target = ap (option_map (λ (i : UrlItem). i.target)) (ap (slice_get t.job.spec.selection.content_urls) (sym is) ∙ item) in
-          absurd (cc)
+    some_there : (found : UrlItem) → at ≡ place → slice_get t.job.spec.selection.content_urls at ≡ Some found → url_of place (Some t.job) ≡ None → ⊥
+    some_there found is item none =
+        let some : url_of place (Some t.job) ≡ Some found.target = ap (option_map (λ (i : UrlItem). i.target)) (ap (slice_get t.job.spec.selection.content_urls) (sym is) ∙ item) in
+        absurd (cc)
 there_by t (Ends status) item place is none = absurd (cc)
 
 pub url_is_there : (pass : ℕ) (found : Option Trigger) (place : ℕ) → next_step pass found ≡ step.Url place → url_of place (option_map (λ (t : Trigger). t.job) found) ≡ None → ⊥

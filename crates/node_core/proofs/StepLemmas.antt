@@ -1,5 +1,5 @@
 -- What the next step of a trigger is answered, by the step as the table of triggers gives it.
-use Rattle.std.proofs.Common.{◌≡◌, ℕ, ◌+◌, ◌-◌, ◌==◌, Bool, true, false, cond, List, [], ◌∷◌, refl, sym, ap, ◌∙◌, nat_lt, None, Some, Option}
+use Rattle.std.proofs.Common.{◌≡◌, ℕ, ◌+◌, ◌==◌, true, false, cond, refl, sym, ap, ◌∙◌, nat_lt, None, Some, Option}
 use Rattle.std.specs.List.{slice_get}
 use Rattle.std.specs.Option.{option_map, option_map_or}
 use Rattle.history.specs.Reply.{advance_reply, opening, step_reply, url_reply}
@@ -9,7 +9,6 @@ use Rattle.history.specs.World.{Awaited, Trigger, World}
 use Rattle.history.specs.declared.reply.Reply.{Reply}
 use Rattle.history.specs.declared.reply.Reply.TheVariants as reply
 use Rattle.node_core.specs.Triggering.{url_of}
-use Rattle.targets.specs.declared.target.Target.{Target}
 use Rattle.trigger_command.specs.declared.selection.UrlItem.{UrlItem}
 use Rattle.trigger_command.specs.declared.spec.TriggerKind.{TriggerKind}
 use Rattle.trigger_command.specs.declared.spec.TriggerKind.TheVariants.{Preposition, Invalidate, Purge}

@@ -1,11 +1,10 @@
 -- What the calls of log files tell of a node's history.
-use Rattle.std.proofs.Common.{◌≡◌, ℕ, ◌+◌, ◌<◌, ◌==◌, Bool, true, false, cond, not, List, [], ◌∷◌, ◌++◌, length, map, refl, sym, ap, ◌∙◌, subst, arith, None, Some, Option, Result, Ok, Err, IfOk}
+use Rattle.std.proofs.Common.{◌≡◌, ℕ, ◌+◌, ◌<◌, ◌==◌, Bool, true, false, cond, not, List, [], ◌∷◌, length, map, refl, sym, ap, ◌∙◌, subst, arith, None, Some, Option, Result, Ok, Err, IfOk}
 use Rattle.std.specs.declared.alloc.AllocError.{AllocError}
 use Rattle.std.specs.List.{filter, find, list_any}
 use Rattle.std.specs.Option.{is_some, option_map}
 use Rattle.std.proofs.lemmas.Bool.{eqb-false}
 use Rattle.std.proofs.lemmas.List.{length-map, map-append}
-use Rattle.cdni_log.specs.File.{file_text}
 use Rattle.cdni_log.specs.declared.row.FileHead.{FileHead}
 use Rattle.cdni_log.specs.declared.row.Row.{Row}
 use Rattle.control_core.specs.Control.{ControlView, file_after, file_reply, has_number, text_at, with_file}
@@ -13,7 +12,7 @@ use Rattle.control_core.specs.declared.control.LogFile.{LogFile}
 use Rattle.delivery_core.proofs.ListLemmas.{find-map, filter-map}
 use Rattle.delivery_core.proofs.Squares as squares
 use Rattle.delivery_core.specs.Edge.{EdgeView}
-use Rattle.delivery_core.specs.Traces.{edge_of, row_in}
+use Rattle.delivery_core.specs.Traces.{row_in}
 use Rattle.history.specs.After.{after, after_reply}
 use Rattle.history.specs.Event.{Entry, History, Cut, DropLog, LogFile as ReadLog, ListLogs}
 use Rattle.history.specs.History.{world_of}

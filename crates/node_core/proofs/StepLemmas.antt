@@ -1,5 +1,5 @@
 -- What the next step of a trigger is answered, by the step as the table of triggers gives it.
-use Rattle.std.proofs.Common.{◌≡◌, ℕ, ◌+◌, ◌-◌, ◌==◌, Bool, true, false, cond, List, [], ◌∷◌, refl, sym, ap, ◌∙◌, nat_lt, None, Some, Option}
+use Rattle.std.proofs.Common.{◌≡◌, ℕ, ◌+◌, ◌==◌, true, false, cond, refl, sym, ap, ◌∙◌, nat_lt, None, Some, Option}
 use Rattle.std.specs.List.{slice_get}
 use Rattle.std.specs.Option.{option_map, option_map_or}
 use Rattle.history.specs.Reply.{advance_reply, opening, step_reply, url_reply}
@@ -9,7 +9,6 @@ use Rattle.history.specs.World.{Awaited, Trigger, World}
 use Rattle.history.specs.declared.reply.Reply.{Reply}
 use Rattle.history.specs.declared.reply.Reply.TheVariants as reply
 use Rattle.node_core.specs.Triggering.{url_of}
-use Rattle.targets.specs.declared.target.Target.{Target}
 use Rattle.trigger_command.specs.declared.selection.UrlItem.{UrlItem}
 use Rattle.trigger_command.specs.declared.spec.TriggerKind.{TriggerKind}
 use Rattle.trigger_command.specs.declared.spec.TriggerKind.TheVariants.{Preposition, Invalidate, Purge}
@@ -111,18 +110,18 @@ there_by t (Waits number) item place is none = absurd (cc)
 there_by t Starts item place is none = absurd (cc)
 there_by t Refreshes item place is none = absurd (cc)
 there_by t (Fetches at found) item place is none = some_there found (same_place at place is) item none
-    where
-      place_of : Step → ℕ
-      place_of (step.Url at) = at
-      place_of other = 0
+  where
+    place_of : Step → ℕ
+    place_of (step.Url at) = at
+    place_of other = 0
 
-      same_place : (at place : ℕ) → step.Url at ≡ step.Url place → at ≡ place
-      same_place at place is = ap place_of is
+    same_place : (at place : ℕ) → step.Url at ≡ step.Url place → at ≡ place
+    same_place at place is = ap place_of is
 
-      some_there : (found : UrlItem) → at ≡ place → slice_get t.job.spec.selection.content_urls at ≡ Some found → url_of place (Some t.job) ≡ None → ⊥
-      some_there found is item none =
-          let some : url_of place (Some t.job) ≡ Some found.target = ap (option_map (λ (i : UrlItem). i.target)) (ap (slice_get t.job.spec.selection.content_urls) (sym is) ∙ item) in
-          absurd (cc)
+    some_there : (found : UrlItem) → at ≡ place → slice_get t.job.spec.selection.content_urls at ≡ Some found → url_of place (Some t.job) ≡ None → ⊥
+    some_there found is item none =
+        let some : url_of place (Some t.job) ≡ Some found.target = ap (option_map (λ (i : UrlItem). i.target)) (ap (slice_get t.job.spec.selection.content_urls) (sym is) ∙ item) in
+        absurd (cc)
 there_by t (Ends status) item place is none = absurd (cc)
 
 pub url_is_there : (pass : ℕ) (found : Option Trigger) (place : ℕ) → next_step pass found ≡ step.Url place → url_of place (option_map (λ (t : Trigger). t.job) found) ≡ None → ⊥

@@ -1,5 +1,5 @@
 -- What the calls of triggers tell of a node's history.
-use Rattle.std.proofs.Common.{◌≡◌, ℕ, ◌+◌, ◌<◌, ◌≤◌, ◌==◌, Bool, true, false, cond, not, List, [], ◌∷◌, ◌++◌, length, refl, sym, ap, ◌∙◌, subst, arith, None, Some, Option, Result, Ok, Err, IfOk}
+use Rattle.std.proofs.Common.{◌≡◌, ℕ, ◌+◌, ◌≤◌, ◌==◌, Bool, true, false, cond, List, [], ◌∷◌, ◌++◌, length, refl, sym, ap, ◌∙◌, subst, arith, None, Some, Option, Result, Ok, Err, IfOk}
 use Rattle.std.specs.declared.alloc.AllocError.{AllocError}
 use Rattle.std.specs.List.{filter}
 use Rattle.std.specs.Option.{is_some, option_and_then, option_map, option_map_or}
@@ -15,15 +15,15 @@ use Rattle.delivery_core.specs.Shelf.{struck}
 use Rattle.delivery_core.specs.Traces.{edge_of}
 use Rattle.delivery_core.specs.declared.results.Began.TheVariants as began
 use Rattle.delivery_core.specs.declared.results.Planned.{Planned}
-use Rattle.history.specs.After.{after, after_reply, commanded, created_trigger, cut_file, files_after, opened_by, position, start_by, start_of, triggers_after}
+use Rattle.history.specs.After.{after_reply, commanded, created_trigger, cut_file, files_after, opened_by, position, start_by, start_of, triggers_after}
 use Rattle.history.specs.Event.{Entry, History, Command, Advance, Cancel, Delete, ReadStatus, Lists}
 use Rattle.history.specs.History.{world_of}
-use Rattle.history.specs.Metadata.{is_skipped, plan_at}
+use Rattle.history.specs.Metadata.{plan_at}
 use Rattle.history.specs.Reply as replies
 use Rattle.history.specs.Reply.{opening, reply_in, url_reply}
 use Rattle.history.specs.Steps as steps
 use Rattle.history.specs.Steps.{changed, ended, first_unknown, listed, skipped, started, trigger_of, waiting}
-use Rattle.history.specs.World.{Made, OneFetch, OneRefresh, Start, Trigger, World}
+use Rattle.history.specs.World.{Made, OneFetch, OneRefresh, Trigger, World}
 use Rattle.history.specs.declared.begun.Fetching.{Fetching}
 use Rattle.history.specs.declared.reply.Reply.{Reply}
 use Rattle.history.specs.declared.reply.Reply.TheVariants as reply

@@ -1,6 +1,6 @@
 -- What is said of calls: which end something, and how a journal keeps them.
-use Rattle.std.specs.Prelude.{Bool, true, false, List, map, None}
-use Rattle.history.specs.Event.{Entry, Event, History, Admit, FetchEnd, Finish, RefreshBegin, RefreshEnd, event_of}
+use Rattle.std.specs.Prelude.{Bool, true, false, None}
+use Rattle.history.specs.Event.{Entry, Event, FetchEnd, Finish, RefreshEnd, event_of}
 use Rattle.upstream_gate.specs.declared.outcome.Outcome.TheVariants.{Failed}
 use Rattle.node_core.specs.declared.entered.Entered.{Entered}
 

@@ -1,5 +1,5 @@
 -- What the calls of triggers make of the two sides of a node, and their replies.
-use Rattle.std.specs.Prelude.{ℕ, ◌+◌, Bool, true, false, List, None, Some, Result, Ok, Err}
+use Rattle.std.specs.Prelude.{ℕ, Bool, true, false, List, None, Some, Result, Ok, Err}
 use Rattle.std.specs.List.{slice_get}
 use Rattle.std.specs.Option.{option_and_then, option_map}
 use Rattle.std.specs.declared.option.Option.{Option}

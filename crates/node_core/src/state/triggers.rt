@@ -278,7 +278,13 @@ fn url_of(job: Option<&Job>, place: u32) -> Result<Option<Target>, AllocError>
     let Some(job) = job else {
         return Ok(None);
     };
-    match job.spec.selection.content_urls.as_slice().get(place as usize) {
+    match job
+        .spec
+        .selection
+        .content_urls
+        .as_slice()
+        .get(place as usize)
+    {
         Some(item) => Ok(Some(item.target.clone()?)),
         None => Ok(None),
     }
@@ -310,9 +316,7 @@ fn reply_of_status(id: u64, job: Option<&Job>) -> Result<Reply, AllocError>
     ensures { IfOk result (λ r. r ≡ status_reply id (option_map (λ j. j.now) job.entry)) }
 {
     match job {
-        Some(job) => Ok(Reply::Resource {
-            job: job.clone()?,
-        }),
+        Some(job) => Ok(Reply::Resource { job: job.clone()? }),
         None => Ok(Reply::Unknown { id }),
     }
 }

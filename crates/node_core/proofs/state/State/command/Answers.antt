@@ -1,6 +1,6 @@
 use Rattle.std.proofs.Common.{length}
 use Rattle.std.proofs.lemmas.Bool.{eq-eqb, ne_eqb}
-use Rattle.node_core.proofs.TriggerLemmas.{command_sound, created_told, full_command_told, spent_command_told}
+use Rattle.node_core.proofs.TriggerLemmas.{created_told, full_command_told, spent_command_told}
 use Rattle.node_core.proofs.state.State.command.Goals as goal
 
 pub returns-then-count-limits-clause-told : goal.returns-then-count-limits-clause-told

@@ -1,4 +1,4 @@
-use Rattle.node_core.proofs.TriggerLemmas.{changed_sound, end_told}
+use Rattle.node_core.proofs.TriggerLemmas.{end_told}
 use Rattle.node_core.proofs.state.State.end_step.Goals as goal
 
 pub returns-clause-told : goal.returns-clause-told

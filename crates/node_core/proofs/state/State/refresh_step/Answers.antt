@@ -1,5 +1,4 @@
 use Rattle.std.proofs.lemmas.Bool.{eq-eqb, ne_eqb}
-use Rattle.delivery_core.proofs.Places.{due_places}
 use Rattle.node_core.proofs.StateLemmas.{forced_number}
 use Rattle.node_core.proofs.TriggerLemmas.{full_refresh_told, refreshed_told}
 use Rattle.node_core.proofs.state.State.refresh_step.Goals as goal

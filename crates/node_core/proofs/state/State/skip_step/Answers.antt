@@ -1,6 +1,6 @@
 use Rattle.std.proofs.Common.{ap}
 use Rattle.node_core.proofs.StateLemmas.{state}
-use Rattle.node_core.proofs.TriggerLemmas.{changed_sound, skip_left}
+use Rattle.node_core.proofs.TriggerLemmas.{skip_left}
 use Rattle.node_core.proofs.state.State.skip_step.Goals as goal
 
 pub returns-clause-after : goal.returns-clause-after

@@ -1,5 +1,5 @@
 use Rattle.std.proofs.lemmas.Bool.{eq-eqb, ne_eqb}
-use Rattle.node_core.proofs.TriggerLemmas.{full_start_told, start_sound, started_places, started_told}
+use Rattle.node_core.proofs.TriggerLemmas.{full_start_told, started_places, started_told}
 use Rattle.node_core.proofs.state.State.start_step.Goals as goal
 
 pub returns-then-self-limits-clause-told : goal.returns-then-self-limits-clause-told

@@ -6,7 +6,7 @@ use Rattle.node_core.proofs.state.State.url_step.Goals as goal
 
 pub returns-then-branch-clause-told : goal.returns-then-branch-clause-told
 returns-then-branch-clause-told c = λ made h s. full_skipped made h c.self.inside.edge c.self.inside.control c.self.inside.origin c.self.inside.opened (rw (← c.self.view_is) at s) c.args.pass c.args.id c.args.moment c.args.place c.in-Some.target (rw (← c.self.view_is) at c.requires) (sym c.in-Some.is ∙ c.in_ok-target.ensures ∙ ap (url_of c.args.place) c.job.ensures)
-    _ _ (sym c.in_ok-skips.ensures ∙ c.if-branch.true) c.skip_step.ensures.reply c.skip_step.ensures.after
+    _ _ (sym c.in_ok-skips.ensures ∙ c.if-branch.true) c.skip_step.ensures.reply (rw (← c.self.view_is) at c.skip_step.ensures.after)
 
 pub returns-then-self-limits-clause-told : goal.returns-then-self-limits-clause-told
 returns-then-self-limits-clause-told c = λ made h s. rw (← c.self.view_is) (full_url_told made h c.self.inside.edge c.self.inside.control c.self.inside.origin c.self.inside.opened (rw (← c.self.view_is) at s) c.args.pass c.args.id c.args.moment c.args.place c.in-Some.target (rw (← c.self.view_is) at c.requires) (sym c.in-Some.is ∙ c.in_ok-target.ensures ∙ ap (url_of c.args.place) c.job.ensures)

@@ -1,21 +1,22 @@
 #!/usr/bin/env bash
-# Instructions of an invalidate in `cdnid replay`, counted under callgrind: its command, its start and its end, by a URL, by a
-# pattern and by a ccid, each of which hits one object, over 100, 10,000 and 100,000 kept objects; and those of 1,000
-# hits after it. A start looks at every kept object, so it costs the more the more there are: the figures are stated, and
-# nothing is asked of them.
+# Instructions of an invalidate in `cdnid replay`, counted under callgrind: its command, start and end, by a URL,
+# by a pattern and by a ccid, each of which hits one object, over 100, 10,000 and 100,000 kept objects; and those of
+# 1,000 hits after it. A start looks at every kept object, so it costs the more the more there are: the figures are
+# stated, and nothing is asked of them.
 # Usage: bench/triggers.sh [OBJECTS..]   (needs valgrind; builds the program by `rt run` where it is not built; 100,000
 # objects take some ten minutes)
 set -eu
 source "$(dirname "$0")/replaying.sh"
 
 get='0 2000 get GET http/1.1 192.0.2.7 as64496 us http://v.example'
-source='{"generic-metadata-type":"MI.SourceMetadata","generic-metadata-value":{"sources":[{"endpoints":["o.example"],"protocol":"http/1.1"}]}}'
+sources='{"sources":[{"endpoints":["o.example"],"protocol":"http/1.1"}]}'
+source='{"generic-metadata-type":"MI.SourceMetadata","generic-metadata-value":'$sources'}'
 grouping='{"generic-metadata-type":"MI.Grouping","generic-metadata-value":{"ccid":"group"}}'
 group='{"path-pattern":{"pattern":"/group/*"},"path-metadata":{"metadata":['$grouping']}}'
 metadata='{"hosts":[{"host":"v.example","host-metadata":{"metadata":['$source'],"paths":['$group']}}]}'
 
-# Installed metadata, and so many kept objects, of which the first is in the group. Every delivery has ended, and its row
-# is in a log file. Argument: how many objects.
+# Installed metadata, and so many kept objects, of which the first is in the group. Every delivery has ended, and its
+# row is in a log file. Argument: how many objects.
 objects() {
   echo 'limits 1073741824 100000 10000 64 60000 1000000'
   echo '0 1000 refresh'
@@ -56,7 +57,7 @@ hits() {
   }'
 }
 
-# Ends with status 1 where the answers do not have so many lines that begin with this. Arguments: how many, and the word.
+# Ends with status 1 where the answers do not have so many lines that begin so. Arguments: how many, and the words.
 answered() {
   [[ $(grep -c "^$2" "$room/answers") == "$1" ]] || { echo "not $1 answers $2" >&2; exit 1; }
 }
@@ -73,6 +74,6 @@ for count in "$@"; do
     answered 1 'final complete'
     hit=$(replay_instructions "$room/hit")
     answered 1000 hit
-    echo "$count objects, by $by: $((invalidated - before)) instructions of the invalidate, $((hit - invalidated)) of 1,000 hits after it"
+    echo "$count objects, by $by: $((invalidated - before)) instructions, $((hit - invalidated)) of 1,000 hits after it"
   done
 done

@@ -1,5 +1,5 @@
-//! Scripts of triggers with the answers and the status that they must have: the name of each, its text, its answers, and
-//! its status's number.
+//! Scripts of triggers with the answers and the status that they must have: the name of each, its text, its answers,
+//! and its status's number.
 
 /// Scripts of each kind of call of triggers.
 pub const TRIGGERS: [(&str, &str, &str, u8); 13] = [

@@ -39,7 +39,7 @@ use Rattle.script_line.specs.Line.{Noted, Said, Sets, Calls, Refuses, said_of, o
 use Rattle.script_line.specs.declared.line.ScriptFault.{ScriptFault}
 use Rattle.script_line.specs.declared.line.ScriptFault.TheVariants as script_fault
 use Rattle.script_line.specs.declared.line.ScriptLine.{ScriptLine}
-use Rattle.script_line.specs.Grammar.{number_below, number_between, bounds_of, limits_of, url_target, key_of_url, each_of, keys_of, is_method, protocol_of, place_at, asked_of, get_of, refreshed, meta_of, plain, is_kind, kind_of, body_of, content_of, got_of, finish_of, one_of, cancel_of, list_of, filter_of, filter_word, of_triggers, of_numbers, bare_of, commands, commanded, plainly_or, worded, call_of, scripted_of, line_of, NoSpace, IsNumber, IsProtocol, IsPlace, IsAsked, AreKeys, IsKind, IsBody, SaysMeta, SaysGet, SaysGot, SaysOne, SaysFinish, SaysCancel, SaysList, AreNumbers, IsWords, SaysOfTriggers, SaysOfNumbers, SaysBare, SaysCommand, SaysCall, SaysRefusal, SaysScripted, SaysRefused, SaysLimits, Says}
+use Rattle.script_line.specs.Grammar.{number_below, number_between, bounds_of, limits_of, url_target, key_of_url, each_of, keys_of, is_method, protocol_of, place_at, asked_of, get_of, refreshed, meta_of, plain, is_kind, kind_of, body_of, content_of, got_of, finish_of, one_of, cancel_of, list_of, filter_of, filter_word, of_triggers, of_numbers, bare_of, commanded, plainly_or, worded, call_of, scripted_of, line_of, NoSpace, IsNumber, IsProtocol, IsPlace, IsAsked, AreKeys, IsKind, IsBody, SaysMeta, SaysGet, SaysGot, SaysOne, SaysFinish, SaysCancel, SaysList, AreNumbers, IsWords, SaysOfTriggers, SaysOfNumbers, SaysBare, SaysCall, SaysRefusal, SaysLimits, Says}
 use Rattle.script_line.specs.Own.{own_id, control_host}
 use Rattle.trigger_command.specs.Reading.{Judged, command_of}
 use Rattle.trigger_command.specs.declared.command.Command.{Command}

@@ -20,4 +20,4 @@ refuse-requires c = rw c.in-Refused.is at c.in-Ok.ensures.no_memory
 pub returns-in-Refused : goal.returns-in-Refused
 returns-in-Refused c =
     let reads = rw c.in-Refused.is at c.in-Ok.ensures.value in
-    refused_steps c.args.node.now c.args.first c.args.at c.args.line.now (sym c.if-not-is_in_limits.false ∙ c.is_in_limits.ensures) c.in-Refused._0 c.empty.new.answer.items c.refuse.new.answer.items c.refuse.result c.empty.ensures reads c.refuse.ensures
+    refused_steps c.args.node.now c.args.first c.args.at c.args.line.now (sym c.if-not-is_in_limits.false ∙ c.is_in_limits.ensures) c.in-Refused.fault c.empty.new.answer.items c.refuse.new.answer.items c.refuse.result c.empty.ensures reads c.refuse.ensures

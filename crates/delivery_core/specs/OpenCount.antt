@@ -14,4 +14,6 @@ begun_count (reply.Denied delivery rule) = 1
 begun_count (reply.Hit delivery fetch kind body) = 1
 begun_count (reply.Miss delivery fetch plan) = 2
 begun_count (reply.Due refresh) = 1
+begun_count (reply.Fetch fetch plan target) = 1
+begun_count (reply.Refresh refresh) = 1
 begun_count answer = 0

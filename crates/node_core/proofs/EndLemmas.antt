@@ -1,5 +1,5 @@
 -- What the calls leave open, and which replies they are answered.
-use Rattle.std.proofs.Common.{◌≡◌, ℕ, ◌+◌, ◌<◌, ◌||◌, Bool, true, false, cond, not, List, [], ◌∷◌, length, refl, sym, ap, ◌∙◌, subst, arith, None, Some, Option, Result, Ok}
+use Rattle.std.proofs.Common.{◌≡◌, ℕ, ◌<◌, ◌||◌, Bool, true, false, cond, not, List, [], ◌∷◌, length, refl, sym, ap, ◌∙◌, subst, arith, None, Some, Option, Result, Ok}
 use Rattle.std.specs.List.{filter, find, list_any}
 use Rattle.std.specs.Option.{is_some}
 use Rattle.control_core.specs.Control.{ControlView}
@@ -23,6 +23,7 @@ use Rattle.node_core.proofs.StateLemmas.{state}
 use Rattle.node_core.specs.Answers.{answers_admit, answers_drop_log, answers_fetch_end, answers_finish, answers_log_file, answers_refresh_end}
 use Rattle.node_core.specs.Logs.{dropped_log, logged}
 use Rattle.node_core.specs.State.{Ends, is_not_open}
+use Rattle.node_core.specs.Triggering.{fetch_told, refresh_told}
 use Rattle.upstream_gate.specs.declared.outcome.Outcome.{Outcome}
 
 pub same_ok : {A E : Type 0} {a b : A} → ◌≡◌ {A = Result A E} (Ok a) (Ok b) → a ≡ b
@@ -48,27 +49,28 @@ shorter test (x ∷ xs) is =
 
 -- ---- ends
 
-module _ (edge edge' : EdgeView) (control : ControlView) (origin : List ℕ) (opened : ℕ) where
+module _ (edge edge' : EdgeView) (control control' : ControlView) (origin : List ℕ) (opened : ℕ) where
   fetch_by : (pass fetch : ℕ) (outcome : Outcome) (found : Option (Open Flight)) → find (is_named fetch pass) edge.fetches ≡ found → (ended : Option Bool) (r : Reply) → ended ≡ fetch_end_reply edge outcome found
-      → edge' ≡ fetch_end_after edge pass fetch outcome found → r ≡ fetch_ended fetch ended → Ends (state edge control origin opened) (state edge' control origin opened) (is_some found) r
-  fetch_by pass fetch outcome None there ended r is left answer = record {
+      → edge' ≡ fetch_end_after edge pass fetch outcome found → r ≡ fetch_ended fetch ended → (good : Bool) → control' ≡ fetch_told control fetch ended good → Ends (state edge control origin opened) (state edge' control' origin opened) (is_some found) r
+  fetch_by pass fetch outcome None there ended r is left answer good moved = record {
     found = ap is_not_open (answer ∙ ap (fetch_ended fetch) is);
-    closed = λ _. ap (λ e. state e control origin opened) left;
+    closed = λ _. ap (λ e. state e control' origin opened) left ∙ ap (λ c. state edge c origin opened) (moved ∙ ap (λ x. fetch_told control fetch x good) is);
     freed = λ no. absurd (cc);
   }
-  fetch_by pass fetch outcome (Some flight) there ended r is left answer = record {
+  fetch_by pass fetch outcome (Some flight) there ended r is left answer good moved = record {
     found = ap is_not_open (answer ∙ ap (fetch_ended fetch) is);
     closed = λ no. absurd (cc);
     freed = λ _. (let less = shorter (is_named fetch pass) edge.fetches (ap is_some there) in rw left (omega (arith, less)));
   }
 
   pub fetch_ends : (pass fetch : ℕ) (outcome : Outcome) (ended : Option Bool) (r : Reply) → ended ≡ fetch_end_reply edge outcome (find (is_named fetch pass) edge.fetches)
-      → edge' ≡ fetch_end_after edge pass fetch outcome (find (is_named fetch pass) edge.fetches) → r ≡ fetch_ended fetch ended
-      → Ends (state edge control origin opened) (state edge' control origin opened) (list_any (is_named fetch pass) edge.fetches) r
-  fetch_ends pass fetch outcome ended r is left answer =
-      subst (λ t. Ends (state edge control origin opened) (state edge' control origin opened) t r) (sym (any_found (is_named fetch pass) edge.fetches))
-      (fetch_by pass fetch outcome (find (is_named fetch pass) edge.fetches) refl ended r is left answer)
+      → edge' ≡ fetch_end_after edge pass fetch outcome (find (is_named fetch pass) edge.fetches) → r ≡ fetch_ended fetch ended → (good : Bool) → control' ≡ fetch_told control fetch ended good
+      → Ends (state edge control origin opened) (state edge' control' origin opened) (list_any (is_named fetch pass) edge.fetches) r
+  fetch_ends pass fetch outcome ended r is left answer good moved =
+      subst (λ t. Ends (state edge control origin opened) (state edge' control' origin opened) t r) (sym (any_found (is_named fetch pass) edge.fetches))
+      (fetch_by pass fetch outcome (find (is_named fetch pass) edge.fetches) refl ended r is left answer good moved)
 
+module _ (edge edge' : EdgeView) (control : ControlView) (origin : List ℕ) (opened : ℕ) where
   finish_by : (pass delivery : ℕ) (row : Admission → Row) (found : Option (Open Admission)) → find (is_named delivery pass) edge.deliveries ≡ found → (number : Option ℕ) (r : Reply) → number ≡ finish_reply edge found
       → edge' ≡ finish_after edge pass delivery row found → r ≡ finished delivery number → Ends (state edge control origin opened) (state edge' control origin opened) (is_some found) r
   finish_by pass delivery row None there number r is left answer = record {
@@ -89,6 +91,7 @@ module _ (edge edge' : EdgeView) (control : ControlView) (origin : List ℕ) (op
       subst (λ t. Ends (state edge control origin opened) (state edge' control origin opened) t r) (sym (any_found (is_named delivery pass) edge.deliveries))
       (finish_by pass delivery row (find (is_named delivery pass) edge.deliveries) refl number r is left answer)
 
+module _ (edge edge' : EdgeView) (control control' : ControlView) (origin : List ℕ) (opened : ℕ) where
   installed_open : (without : EdgeView) (refresh moment : ℕ) (tree : TreeData) (later : Option ℕ) → open_count (install_after without refresh tree moment (install_reply edge later)) ≡ open_count without
   installed_open without refresh moment tree None = refl
   installed_open without refresh moment tree (Some later) = refl
@@ -106,18 +109,18 @@ module _ (edge edge' : EdgeView) (control : ControlView) (origin : List ℕ) (op
   fresh_found refresh None = installed_found refresh (newer edge refresh)
 
   refresh_by : (pass refresh : ℕ) (tree : Option TreeData) (found : Option (Open Refreshing)) → find (is_named refresh pass) edge.refreshes ≡ found → (ended : RefreshEnded) (r : Reply) → ended ≡ refresh_end_reply edge refresh tree found
-      → edge' ≡ refresh_end_after edge pass refresh tree found → r ≡ refresh_ended refresh ended → Ends (state edge control origin opened) (state edge' control origin opened) (is_some found) r
-  refresh_by pass refresh tree None there ended r is left answer = record {
+      → edge' ≡ refresh_end_after edge pass refresh tree found → r ≡ refresh_ended refresh ended → control' ≡ refresh_told control refresh ended → Ends (state edge control origin opened) (state edge' control' origin opened) (is_some found) r
+  refresh_by pass refresh tree None there ended r is left answer moved = record {
     found = ap is_not_open (answer ∙ ap (refresh_ended refresh) is);
-    closed = λ _. ap (λ e. state e control origin opened) left;
+    closed = λ _. ap (λ e. state e control' origin opened) left ∙ ap (λ c. state edge c origin opened) (moved ∙ ap (refresh_told control refresh) is);
     freed = λ no. absurd (cc);
   }
-  refresh_by pass refresh None (Some begun) there ended r is left answer = record {
+  refresh_by pass refresh None (Some begun) there ended r is left answer moved = record {
     found = ap is_not_open (answer ∙ ap (refresh_ended refresh) is);
     closed = λ no. absurd (cc);
     freed = λ _. (let less = shorter (is_named refresh pass) edge.refreshes (ap is_some there) in rw left (omega (arith, less)));
   }
-  refresh_by pass refresh (Some tree) (Some begun) there ended r is left answer = record {
+  refresh_by pass refresh (Some tree) (Some begun) there ended r is left answer moved = record {
     found = ap is_not_open (answer ∙ ap (refresh_ended refresh) is) ∙ fresh_found refresh (first_noted tree.resources begun.what.since);
     closed = λ no. absurd (cc);
     freed = λ _. (let less = shorter (is_named refresh pass) edge.refreshes (ap is_some there) in
@@ -125,11 +128,11 @@ module _ (edge edge' : EdgeView) (control : ControlView) (origin : List ℕ) (op
   }
 
   pub refresh_ends : (pass refresh : ℕ) (tree : Option TreeData) (ended : RefreshEnded) (r : Reply) → ended ≡ refresh_end_reply edge refresh tree (find (is_named refresh pass) edge.refreshes)
-      → edge' ≡ refresh_end_after edge pass refresh tree (find (is_named refresh pass) edge.refreshes) → r ≡ refresh_ended refresh ended
-      → Ends (state edge control origin opened) (state edge' control origin opened) (list_any (is_named refresh pass) edge.refreshes) r
-  refresh_ends pass refresh tree ended r is left answer =
-      subst (λ t. Ends (state edge control origin opened) (state edge' control origin opened) t r) (sym (any_found (is_named refresh pass) edge.refreshes))
-      (refresh_by pass refresh tree (find (is_named refresh pass) edge.refreshes) refl ended r is left answer)
+      → edge' ≡ refresh_end_after edge pass refresh tree (find (is_named refresh pass) edge.refreshes) → r ≡ refresh_ended refresh ended → control' ≡ refresh_told control refresh ended
+      → Ends (state edge control origin opened) (state edge' control' origin opened) (list_any (is_named refresh pass) edge.refreshes) r
+  refresh_ends pass refresh tree ended r is left answer moved =
+      subst (λ t. Ends (state edge control origin opened) (state edge' control' origin opened) t r) (sym (any_found (is_named refresh pass) edge.refreshes))
+      (refresh_by pass refresh tree (find (is_named refresh pass) edge.refreshes) refl ended r is left answer moved)
 
 -- ---- which replies
 

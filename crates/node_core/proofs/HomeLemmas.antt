@@ -1,12 +1,12 @@
 -- What the home of one pass has seen.
-use Rattle.std.proofs.Common.{◌≡◌, ℕ, List, [], ◌∷◌, ◌++◌, refl, sym, ap, ◌∙◌, subst, Result, Ok, Err, IfOk, OnErr}
+use Rattle.std.proofs.Common.{◌≡◌, ℕ, [], ◌∷◌, ◌++◌, refl, sym, subst, Result, Ok, Err, IfOk, OnErr}
 use Rattle.std.specs.declared.alloc.AllocError.{AllocError}
 use Rattle.std.specs.Result.{MatchResult}
 use Rattle.std.proofs.lemmas.List.{append-nil}
 use Rattle.history.specs.Event.{Event, History}
 use Rattle.history.specs.History.{reply_to}
 use Rattle.history.specs.declared.reply.Reply.{Reply}
-use Rattle.node_core.specs.Home.{AreOf, IsAnswered, IsUnanswered, Who}
+use Rattle.node_core.specs.Home.{AreOf, IsAnswered, IsUnanswered}
 use Rattle.node_core.specs.Node.{NodeView, Stands, Tells}
 
 -- the node stands for the history, and each entry is of this pass

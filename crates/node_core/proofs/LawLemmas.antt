@@ -37,7 +37,7 @@ module _ (hits : HitLaw) (misses : MissLaw) (reads : MetadataLaw) (rows : RowLaw
   said_of : (event event' : Event) (answer answer' : Reply) → answer ≡ reply_to made h (pass, event) → event ≡ event' → answer ≡ answer' → reply_to made h (pass, event') ≡ answer'
   said_of event event' answer answer' is same also = ap (λ e. reply_to made h (pass, e)) (sym same) ∙ sym is ∙ also
 
-  lawful : (event : Event) (answer : Reply) → answer ≡ reply_to made h (pass, event) → IsLawful made h pass event answer
+  pub lawful : (event : Event) (answer : Reply) → answer ≡ reply_to made h (pass, event) → IsLawful made h pass event answer
   lawful event answer is = record {
     hit = λ asked place moment delivery fetch kind body this so. hits made h pass asked place moment delivery fetch kind body (said_of event (Admit asked place moment) answer (reply.Hit delivery fetch kind body) is this so);
     miss = λ asked place moment delivery fetch plan this so. misses made h pass asked place moment delivery fetch plan (said_of event (Admit asked place moment) answer (reply.Miss delivery fetch plan) is this so);
@@ -52,6 +52,10 @@ module _ (hits : HitLaw) (misses : MissLaw) (reads : MetadataLaw) (rows : RowLaw
         });
   }
 
-  pub lawful_ok : (event : Event) (r : Result Reply AllocError) (v : NodeView) → IfOk r (λ a. Tells made h (pass, event) a v) → IfOk r (λ a. IsLawful made h pass event a)
-  lawful_ok event (Ok a) v tells = lawful event a tells.0
-  lawful_ok event (Err e) v tells = tt
+-- every answer is
+abbrev pub AreLawful : Type 0
+AreLawful = (made : Made) (h : History) (pass : ℕ) (event : Event) (answer : Reply) → answer ≡ reply_to made h (pass, event) → IsLawful made h pass event answer
+
+pub lawful_ok : AreLawful → (made : Made) (h : History) (pass : ℕ) (event : Event) (r : Result Reply AllocError) (v : NodeView) → IfOk r (λ a. Tells made h (pass, event) a v) → IfOk r (λ a. IsLawful made h pass event a)
+lawful_ok law made h pass event (Ok a) v tells = law made h pass event a tells.0
+lawful_ok law made h pass event (Err e) v tells = tt

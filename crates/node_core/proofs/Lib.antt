@@ -3,5 +3,6 @@ mod HomeLemmas
 mod LawLemmas
 mod LogLemmas
 mod NodeLemmas
-mod QuietLemmas
 mod StateLemmas
+mod StepLemmas
+mod TriggerLemmas

@@ -1,11 +1,10 @@
 -- What the calls of log files tell of a node's history.
-use Rattle.std.proofs.Common.{◌≡◌, ℕ, ◌+◌, ◌<◌, ◌==◌, Bool, true, false, cond, not, List, [], ◌∷◌, ◌++◌, length, map, refl, sym, ap, ◌∙◌, subst, arith, None, Some, Option, Result, Ok, Err, IfOk}
+use Rattle.std.proofs.Common.{◌≡◌, ℕ, ◌+◌, ◌<◌, ◌==◌, Bool, true, false, cond, not, List, [], ◌∷◌, length, map, refl, sym, ap, ◌∙◌, subst, arith, None, Some, Option, Result, Ok, Err, IfOk}
 use Rattle.std.specs.declared.alloc.AllocError.{AllocError}
 use Rattle.std.specs.List.{filter, find, list_any}
 use Rattle.std.specs.Option.{is_some, option_map}
 use Rattle.std.proofs.lemmas.Bool.{eqb-false}
 use Rattle.std.proofs.lemmas.List.{length-map, map-append}
-use Rattle.cdni_log.specs.File.{file_text}
 use Rattle.cdni_log.specs.declared.row.FileHead.{FileHead}
 use Rattle.cdni_log.specs.declared.row.Row.{Row}
 use Rattle.control_core.specs.Control.{ControlView, file_after, file_reply, has_number, text_at, with_file}
@@ -13,7 +12,7 @@ use Rattle.control_core.specs.declared.control.LogFile.{LogFile}
 use Rattle.delivery_core.proofs.ListLemmas.{find-map, filter-map}
 use Rattle.delivery_core.proofs.Squares as squares
 use Rattle.delivery_core.specs.Edge.{EdgeView}
-use Rattle.delivery_core.specs.Traces.{edge_of, row_in}
+use Rattle.delivery_core.specs.Traces.{row_in}
 use Rattle.history.specs.After.{after, after_reply}
 use Rattle.history.specs.Event.{Entry, History, Cut, DropLog, LogFile as ReadLog, ListLogs}
 use Rattle.history.specs.History.{world_of}
@@ -26,6 +25,7 @@ use Rattle.node_core.proofs.EndLemmas.{any_found}
 use Rattle.node_core.proofs.StateLemmas.{after_opens, control_by, control_kept, left_by, same_opened, state, told}
 use Rattle.node_core.specs.Logs.{control_of, dropped_log, file_in, logged}
 use Rattle.node_core.specs.State.{IsSound, Follows, Says}
+use Rattle.trigger_table.specs.Triggers.{TriggersView}
 
 -- ---- lists
 
@@ -120,7 +120,6 @@ module _ (made : Made) (h : History) (edge : EdgeView) (control : ControlView) (
         (s.edge ∙ sym (left_by w cut reply.NothingToCut (sym replied) ∙ squares.uncut_leaves w pass moment))
         (s.control ∙ control_kept w cut reply.NothingToCut replied refl refl refl refl) s.origin
         (s.opened ∙ same_opened w.counts.opened ∙ after_opens w cut reply.NothingToCut replied)
-        s.untriggered
 
     full_told_by : (count : ℕ) → reply.Full count ≡ reply_in w cut → Says made h cut (reply.Full count) (state edge control origin opened)
     full_told_by count replied =
@@ -128,7 +127,6 @@ module _ (made : Made) (h : History) (edge : EdgeView) (control : ControlView) (
         (s.edge ∙ sym (left_by w cut (reply.Full count) (sym replied) ∙ squares.full_cut_leaves w pass moment count))
         (s.control ∙ control_kept w cut (reply.Full count) replied refl refl refl refl) s.origin
         (s.opened ∙ same_opened w.counts.opened ∙ after_opens w cut (reply.Full count) replied)
-        s.untriggered
 
     -- as many files are kept as may be
     pub full_told : 0 < length edge.unfiled → (length control.files == edge.limits.files) ≡ true → Says made h cut (reply.Full (length control.files)) (state edge control origin opened)
@@ -154,7 +152,6 @@ module _ (made : Made) (h : History) (edge : EdgeView) (control : ControlView) (
         ∙ sym (control_by w cut (reply.File (w.counts.filed + 1)) new ∙ cut_files w pass moment))
         s.origin
         (ap (λ n. n + 1) s.opened ∙ after_opens w cut (reply.File number) replied)
-        s.untriggered
 
   -- ---- reading, listing and dropping
 
@@ -175,12 +172,12 @@ module _ (made : Made) (h : History) (edge : EdgeView) (control : ControlView) (
         told made h (pass, ReadLog number) (reply.Unknown number) edge control origin opened replied
         (s.edge ∙ sym (left_by w (pass, ReadLog number) (reply.Unknown number) (sym replied) ∙ squares.no_log_leaves w pass number))
         (s.control ∙ control_kept w (pass, ReadLog number) (reply.Unknown number) replied refl refl refl refl) s.origin
-        (s.opened ∙ same_opened w.counts.opened ∙ after_opens w (pass, ReadLog number) (reply.Unknown number) replied) s.untriggered
+        (s.opened ∙ same_opened w.counts.opened ∙ after_opens w (pass, ReadLog number) (reply.Unknown number) replied)
     log_told_by (Some text) replied =
         told made h (pass, ReadLog number) (reply.LogText text) edge control origin opened replied
         (s.edge ∙ sym (left_by w (pass, ReadLog number) (reply.LogText text) (sym replied) ∙ squares.log_leaves w pass number text))
         (s.control ∙ control_kept w (pass, ReadLog number) (reply.LogText text) replied refl refl refl refl) s.origin
-        (s.opened ∙ same_opened w.counts.opened ∙ after_opens w (pass, ReadLog number) (reply.LogText text) replied) s.untriggered
+        (s.opened ∙ same_opened w.counts.opened ∙ after_opens w (pass, ReadLog number) (reply.LogText text) replied)
 
     pub log_told : Says made h (pass, ReadLog number) (logged number (text_at number control.files)) (state edge control origin opened)
     log_told = log_told_by (text_at number control.files) log_replied
@@ -215,12 +212,12 @@ module _ (made : Made) (h : History) (edge : EdgeView) (control : ControlView) (
         told made h (pass, DropLog number) reply.Dropped edge control' origin opened replied
         (s.edge ∙ sym (left_by w (pass, DropLog number) reply.Dropped (sym replied) ∙ squares.dropped_leaves w pass number))
         (kept ∙ sym (control_by w (pass, DropLog number) reply.Dropped replied)) s.origin
-        (s.opened ∙ same_opened w.counts.opened ∙ after_opens w (pass, DropLog number) reply.Dropped replied) s.untriggered
+        (s.opened ∙ same_opened w.counts.opened ∙ after_opens w (pass, DropLog number) reply.Dropped replied)
     drop_told_by control' false replied kept =
         told made h (pass, DropLog number) (reply.Unknown number) edge control' origin opened replied
         (s.edge ∙ sym (left_by w (pass, DropLog number) (reply.Unknown number) (sym replied) ∙ squares.undropped_leaves w pass number))
         (kept ∙ sym (control_by w (pass, DropLog number) (reply.Unknown number) replied)) s.origin
-        (s.opened ∙ same_opened w.counts.opened ∙ after_opens w (pass, DropLog number) (reply.Unknown number) replied) s.untriggered
+        (s.opened ∙ same_opened w.counts.opened ∙ after_opens w (pass, DropLog number) (reply.Unknown number) replied)
 
     pub drop_told : (control' : ControlView) (dropped : Bool) → dropped ≡ list_any (has_number number) control.files → control' ≡ record control { files = filter (λ file. not (has_number number file)) control.files }
         → Says made h (pass, DropLog number) (dropped_log number dropped) (state edge control' origin opened)
@@ -241,22 +238,30 @@ module _ (made : Made) (h : History) (edge : EdgeView) (control : ControlView) (
         told made h (pass, ListLogs) (reply.Numbers numbers) edge control origin opened replied
         (s.edge ∙ sym (left_by w (pass, ListLogs) (reply.Numbers numbers) (sym replied) ∙ squares.list_leaves w pass numbers))
         (s.control ∙ control_kept w (pass, ListLogs) (reply.Numbers numbers) replied refl refl refl refl) s.origin
-        (s.opened ∙ same_opened w.counts.opened ∙ after_opens w (pass, ListLogs) (reply.Numbers numbers) replied) s.untriggered
+        (s.opened ∙ same_opened w.counts.opened ∙ after_opens w (pass, ListLogs) (reply.Numbers numbers) replied)
 
 -- ---- soundness
 
 module _ (edge : EdgeView) (control : ControlView) (opened : ℕ) (s : IsSound edge control opened) where
   pub file_sound : (edge' : EdgeView) (control' : ControlView) (number : ℕ) (filed : ℕ) → (opened == edge.limits.opened) ≡ false → edge' ≡ record edge { unfiled = [] }
-      → control'.filed ≡ control.filed + 1 → control'.most ≡ control.most → IsSound edge' control' (opened + 1)
-  file_sound edge' control' number filed room left more most =
+      → control'.filed ≡ control.filed + 1 → control'.most ≡ control.most → control'.triggers ≡ control.triggers → IsSound edge' control' (opened + 1)
+  file_sound edge' control' number filed room left more most table =
       let other = eqb-false opened edge.limits.opened room in
       rw left (record {
-        begun = (let b = s.begun in omega (arith, more));
+        begun = (let b = s.begun in omega (arith, more, ap (λ (t : TriggersView). t.created) table));
         fetched = (let f = s.fetched in omega arith);
         few = (let f = s.few in omega arith);
         limit = s.limit;
-        most = most ∙ s.most;
+        most_files = most ∙ s.most_files;
+        most_triggers = ap (λ (t : TriggersView). t.most) table ∙ s.most_triggers;
       })
 
-  pub drop_sound : (control' : ControlView) → control'.filed ≡ control.filed → control'.most ≡ control.most → IsSound edge control' opened
-  drop_sound control' filed most = record { begun = (let b = s.begun in omega (arith, filed)); fetched = s.fetched; few = s.few; limit = s.limit; most = most ∙ s.most }
+  pub drop_sound : (control' : ControlView) → control'.filed ≡ control.filed → control'.most ≡ control.most → control'.triggers ≡ control.triggers → IsSound edge control' opened
+  drop_sound control' filed most table = record {
+    begun = (let b = s.begun in omega (arith, filed, ap (λ (t : TriggersView). t.created) table));
+    fetched = s.fetched;
+    few = s.few;
+    limit = s.limit;
+    most_files = most ∙ s.most_files;
+    most_triggers = ap (λ (t : TriggersView). t.most) table ∙ s.most_triggers;
+  }

@@ -1,20 +1,19 @@
 -- What a node's journal has after a call.
-use Rattle.std.proofs.Common.{◌≡◌, ℕ, ◌+◌, ◌<◌, ◌≤◌, ◌==◌, ◌&&◌, ◌||◌, ◌↔◌, Bool, true, false, cond, not, arith, IsTrue, OnErr, List, [], ◌∷◌, ◌++◌, map, refl, sym, ap, ◌∙◌, subst, Option, Result, Ok, Err, IfOk, IsOk}
-use Rattle.std.specs.declared.alloc.AllocError.{AllocError}
+use Rattle.std.proofs.Common.{◌≡◌, ℕ, ◌+◌, ◌≤◌, ◌==◌, ◌&&◌, ◌||◌, ◌↔◌, Bool, true, false, not, arith, OnErr, List, [], ◌∷◌, ◌++◌, map, refl, sym, ap, ◌∙◌, Option, Result, Ok, Err, IsOk}
 use Rattle.std.specs.List.{list_any}
-use Rattle.std.proofs.lemmas.List.{append-nil, map-append}
+use Rattle.std.proofs.lemmas.List.{map-append}
 use Rattle.delivery_core.specs.Edge.{EdgeView}
 use Rattle.delivery_core.specs.Open.{is_named}
 use Rattle.delivery_core.specs.Traces.{flight, refreshing, unplaced}
 use Rattle.delivery_core.specs.declared.open.Open.{Open}
 use Rattle.history.specs.Event.{Entry, Event, History, Admit, FetchEnd, Finish, RefreshBegin, RefreshEnd, Command, Advance, Cancel, Delete, ReadStatus, Lists, Cut, LogFile, ListLogs, DropLog}
-use Rattle.history.specs.History.{reply_to, world_of}
+use Rattle.history.specs.History.{world_of}
 use Rattle.history.specs.After.{begun_delivery, begun_fetch, begun_refresh}
 use Rattle.history.specs.Laws.{HasBegun, IsOpen, ends_delivery, ends_fetch, ends_refresh}
 use Rattle.history.specs.World.{Begun, Delivering, Made, is_open}
 use Rattle.history.specs.declared.reply.Reply.{Reply}
 use Rattle.journal.specs.Seen.{Seen, pushed}
-use Rattle.node_core.specs.Call.{entry_of, stripped, stripped_event}
+use Rattle.node_core.specs.Call.{entry_of, stripped}
 use Rattle.node_core.specs.Home.{EndsOpen}
 use Rattle.node_core.specs.Node.{NodeView, Stands, Tells}
 use Rattle.node_core.specs.State.{Ends, Follows, Says, StateView, ends_open, is_not_open}

@@ -4,7 +4,7 @@ use Rattle.std.specs.List.{find}
 use Rattle.std.proofs.lemmas.Bool.{eqb-false}
 use Rattle.cdni_base.specs.Limits.{AreInRange, Bounds}
 use Rattle.cdni_base.specs.declared.asked.Asked.{Asked}
-use Rattle.control_core.specs.Control.{ControlView}
+use Rattle.control_core.specs.Control.{ControlView, with_triggers}
 use Rattle.control_core.specs.Control.{empty as no_files}
 use Rattle.delivery_core.proofs.Growth.{admit_grows}
 use Rattle.delivery_core.proofs.PlacedLemmas.{placed}
@@ -33,6 +33,7 @@ use Rattle.history.specs.declared.reply.Reply.{Reply}
 use Rattle.history.specs.declared.reply.Reply.TheVariants as reply
 use Rattle.node_core.specs.Logs.{control_of, file_in}
 use Rattle.node_core.specs.State.{StateView, IsLeft, IsSound, Follows, Says}
+use Rattle.node_core.specs.Triggering.{fetch_told, refresh_told}
 use Rattle.location_acl.specs.declared.footprint.Place.{Place}
 use Rattle.metadata_objects.specs.Tree.{TreeData}
 use Rattle.upstream_gate.specs.declared.outcome.Outcome.{Outcome}
@@ -45,15 +46,11 @@ same_origin : (w : World) (e : Entry) → (after w e).made.origin ≡ w.made.ori
 unfolding after after_reply
 same_origin w e = refl
 
-triggers_by : (w : World) (e : Entry) (r : Reply) → r ≡ reply_in w e → triggers_after w e r ≡ [] → (after w e).controlling.triggers ≡ []
-unfolding after after_reply
-triggers_by w e r is none = ap (λ x. triggers_after w e x) (sym is) ∙ none
-
 module _ (made : Made) (h : History) (e : Entry) (r : Reply) (edge : EdgeView) (control : ControlView) (origin : List ℕ) (opened : ℕ) where
   pub told : r ≡ reply_to made h e → edge ≡ edge_of (after (world_of made h) e) → control ≡ control_of (after (world_of made h) e) → origin ≡ (world_of made h).made.origin
-      → opened ≡ (after (world_of made h) e).counts.opened → triggers_after (world_of made h) e r ≡ [] → Says made h e r (state edge control origin opened)
-  told is left kept host many none =
-      (is, subst (λ w. IsLeft (state edge control origin opened) w) (sym (world_push made h e)) (record { edge = left; control = kept; origin = host ∙ sym (same_origin (world_of made h) e); opened = many; untriggered = triggers_by (world_of made h) e r is none }))
+      → opened ≡ (after (world_of made h) e).counts.opened → Says made h e r (state edge control origin opened)
+  told is left kept host many =
+      (is, subst (λ w. IsLeft (state edge control origin opened) w) (sym (world_push made h e)) (record { edge = left; control = kept; origin = host ∙ sym (same_origin (world_of made h) e); opened = many }))
 
 -- ---- log files that a call leaves alone
 
@@ -119,18 +116,49 @@ none_created_refresh refresh (ended_as.Older later) = refl
 none_created_refresh refresh ended_as.Failed = refl
 none_created_refresh refresh ended_as.NotOpen = refl
 
--- ---- no trigger
+-- ---- what the triggers are changed by
 
-fetch_end_untriggered : (w : World) (pass fetch : ℕ) (outcome : Outcome) (moment : ℕ) → w.controlling.triggers ≡ [] → (ended : Option Bool) (r : Reply) → r ≡ fetch_ended fetch ended → triggers_after w (pass, FetchEnd fetch outcome moment) r ≡ []
-fetch_end_untriggered w pass fetch outcome moment none None r is = ap (triggers_after w (pass, FetchEnd fetch outcome moment)) is ∙ none
-fetch_end_untriggered w pass fetch outcome moment none (Some kept) r is = ap (triggers_after w (pass, FetchEnd fetch outcome moment)) is ∙ ap (ended_fetch fetch (is_fetched outcome)) none
+-- the triggers are changed so, and the log files left alone
+control_moves : (w : World) (e : Entry) (r : Reply) (triggers : List Trigger) → files_after w e r ≡ w.controlling.files → cut_file r ≡ None → triggers_after w e r ≡ triggers → created_trigger r ≡ None
+    → control_of (after_reply w e r) ≡ with_triggers (control_of w) triggers
+unfolding after_reply
+control_moves w e r triggers files none is uncreated =
+    ap (λ (x : (List Filed × Option ℕ) × (List Trigger × Option ℕ)). record {
+      triggers = record { triggers = x.1.0; most = w.made.limits.triggers; created = unwrap_or x.1.1 w.counts.created };
+      files = map (file_in w.made.origin) x.0.0;
+      most = w.made.limits.files;
+      filed = unwrap_or x.0.1 w.counts.filed;
+    }) (pair_is (pair_is files none) (pair_is is uncreated))
 
-refresh_end_untriggered : (w : World) (pass refresh : ℕ) (tree : Option TreeData) (moment : ℕ) → w.controlling.triggers ≡ [] → (ended : RefreshEnded) (r : Reply) → r ≡ refresh_ended refresh ended → triggers_after w (pass, RefreshEnd refresh tree moment) r ≡ []
-refresh_end_untriggered w pass refresh tree moment none (ended_as.Installed generation) r is = ap (triggers_after w (pass, RefreshEnd refresh tree moment)) is ∙ ap (ended_refresh refresh true) none
-refresh_end_untriggered w pass refresh tree moment none (ended_as.Stale trigger) r is = ap (triggers_after w (pass, RefreshEnd refresh tree moment)) is ∙ ap (ended_refresh refresh false) none
-refresh_end_untriggered w pass refresh tree moment none (ended_as.Older later) r is = ap (triggers_after w (pass, RefreshEnd refresh tree moment)) is ∙ ap (ended_refresh refresh false) none
-refresh_end_untriggered w pass refresh tree moment none ended_as.Failed r is = ap (triggers_after w (pass, RefreshEnd refresh tree moment)) is ∙ ap (ended_refresh refresh false) none
-refresh_end_untriggered w pass refresh tree moment none ended_as.NotOpen r is = ap (triggers_after w (pass, RefreshEnd refresh tree moment)) is ∙ none
+pub control_changed : (change : List Trigger → List Trigger) (control control' : ControlView) (w : World) (e : Entry) (r : Reply) → control ≡ control_of w → control' ≡ with_triggers control (change control.triggers.triggers)
+    → r ≡ reply_in w e → files_after w e r ≡ w.controlling.files → cut_file r ≡ None → triggers_after w e r ≡ change w.controlling.triggers → created_trigger r ≡ None → control' ≡ control_of (after w e)
+control_changed change control control' w e r is moved replied files none triggers uncreated =
+    moved ∙ ap (λ (v : ControlView). with_triggers v (change v.triggers.triggers)) is
+    ∙ sym (control_by w e r replied ∙ control_moves w e r (change w.controlling.triggers) files none triggers uncreated)
+
+module _ (w : World) (control control' : ControlView) (s : control ≡ control_of w) where
+  fetch_moved : (pass fetch : ℕ) (outcome : Outcome) (moment : ℕ) (ended : Option Bool) (r : Reply) → r ≡ fetch_ended fetch ended → r ≡ reply_in w (pass, FetchEnd fetch outcome moment)
+      → control' ≡ fetch_told control fetch ended (is_fetched outcome) → control' ≡ control_of (after w (pass, FetchEnd fetch outcome moment))
+  fetch_moved pass fetch outcome moment None r answer replied moved =
+      moved ∙ s ∙ control_kept w (pass, FetchEnd fetch outcome moment) r replied refl (ap cut_file answer) (ap (triggers_after w (pass, FetchEnd fetch outcome moment)) answer) (ap created_trigger answer)
+  fetch_moved pass fetch outcome moment (Some kept) r answer replied moved =
+      control_changed (ended_fetch fetch (is_fetched outcome)) control control' w (pass, FetchEnd fetch outcome moment) r s moved replied refl (ap cut_file answer)
+      (ap (triggers_after w (pass, FetchEnd fetch outcome moment)) answer) (ap created_trigger answer)
+
+  module _ (pass refresh : ℕ) (tree : Option TreeData) (moment : ℕ) (r : Reply) (replied : r ≡ reply_in w (pass, RefreshEnd refresh tree moment)) where
+    ended_moved : (good : Bool) (x : Reply) → r ≡ x → cut_file x ≡ None → created_trigger x ≡ None → triggers_after w (pass, RefreshEnd refresh tree moment) x ≡ ended_refresh refresh good w.controlling.triggers
+        → control' ≡ with_triggers control (ended_refresh refresh good control.triggers.triggers) → control' ≡ control_of (after w (pass, RefreshEnd refresh tree moment))
+    ended_moved good x answer uncut uncreated triggers moved =
+        control_changed (ended_refresh refresh good) control control' w (pass, RefreshEnd refresh tree moment) r s moved replied refl (ap cut_file answer ∙ uncut)
+        (ap (triggers_after w (pass, RefreshEnd refresh tree moment)) answer ∙ triggers) (ap created_trigger answer ∙ uncreated)
+
+    refresh_moved : (ended : RefreshEnded) → r ≡ refresh_ended refresh ended → control' ≡ refresh_told control refresh ended → control' ≡ control_of (after w (pass, RefreshEnd refresh tree moment))
+    refresh_moved (ended_as.Installed generation) answer moved = ended_moved true (reply.Installed generation) answer refl refl refl moved
+    refresh_moved (ended_as.Stale trigger) answer moved = ended_moved false (reply.Stale trigger) answer refl refl refl moved
+    refresh_moved (ended_as.Older later) answer moved = ended_moved false (reply.Older later) answer refl refl refl moved
+    refresh_moved ended_as.Failed answer moved = ended_moved false reply.Failed answer refl refl refl moved
+    refresh_moved ended_as.NotOpen answer moved =
+        moved ∙ s ∙ control_kept w (pass, RefreshEnd refresh tree moment) r replied refl (ap cut_file answer) (ap (triggers_after w (pass, RefreshEnd refresh tree moment)) answer) (ap created_trigger answer)
 
 pub after_opens : (w : World) (e : Entry) (r : Reply) → r ≡ reply_in w e → w.counts.opened + opened_by r ≡ (after w e).counts.opened
 unfolding after after_reply
@@ -145,7 +173,31 @@ same_opened n = omega arith
 
 pub stands_at_start : (made : Made) (v : EdgeView) (control : ControlView) → v ≡ empty made.limits → control ≡ no_files made.limits → Follows (state v control made.origin 0) made []
 unfolding world_of
-stands_at_start made v control is none = record { edge = is; control = none; origin = refl; opened = refl; untriggered = refl }
+stands_at_start made v control is none = record { edge = is; control = none; origin = refl; opened = refl }
+
+module _ (made : Made) (h : History) (edge edge' : EdgeView) (control control' : ControlView) (origin : List ℕ) (opened : ℕ) (s : Follows (state edge control origin opened) made h) where
+  pub fetch_end_told : (pass fetch : ℕ) (outcome : Outcome) (moment : ℕ) (ended : Option Bool) (r : Reply) → ended ≡ fetch_end_reply edge outcome (find (is_named fetch pass) edge.fetches)
+      → edge' ≡ fetch_end_after edge pass fetch outcome (find (is_named fetch pass) edge.fetches) → r ≡ fetch_ended fetch ended
+      → control' ≡ fetch_told control fetch ended (is_fetched outcome) → Says made h (pass, FetchEnd fetch outcome moment) r (state edge' control' origin opened)
+  fetch_end_told pass fetch outcome moment ended r is left answer moved =
+      let w : World = world_of made h in
+      let replied : r ≡ reply_in w (pass, FetchEnd fetch outcome moment) = answer ∙ ap (fetch_ended fetch) is ∙ ap (λ (v : EdgeView). fetch_ended fetch (fetch_end_reply v outcome (find (is_named fetch pass) v.fetches))) s.edge ∙ squares.fetch_end_replies w pass fetch outcome moment in
+      told made h (pass, FetchEnd fetch outcome moment) r edge' control' origin opened replied
+      (left ∙ ap (λ (v : EdgeView). fetch_end_after v pass fetch outcome (find (is_named fetch pass) v.fetches)) s.edge ∙ sym (squares.fetch_end_leaves w pass fetch outcome moment))
+      (fetch_moved w control control' s.control pass fetch outcome moment ended r answer replied moved) s.origin
+      (s.opened ∙ sym (squares.fetch_end_opens w pass fetch outcome moment))
+
+  pub refresh_end_told : (pass refresh : ℕ) (tree : Option TreeData) (moment : ℕ) (ended : RefreshEnded) (r : Reply) → ended ≡ refresh_end_reply edge refresh tree (find (is_named refresh pass) edge.refreshes)
+      → edge' ≡ refresh_end_after edge pass refresh tree (find (is_named refresh pass) edge.refreshes) → r ≡ refresh_ended refresh ended
+      → control' ≡ refresh_told control refresh ended → Says made h (pass, RefreshEnd refresh tree moment) r (state edge' control' origin opened)
+  refresh_end_told pass refresh tree moment ended r is left answer moved =
+      let w : World = world_of made h in
+      let replied : r ≡ reply_in w (pass, RefreshEnd refresh tree moment) = answer ∙ ap (refresh_ended refresh) is ∙ ap (λ (v : EdgeView). refresh_ended refresh (refresh_end_reply v refresh tree (find (is_named refresh pass) v.refreshes))) s.edge
+      ∙ squares.refresh_end_replies w pass refresh tree moment in
+      told made h (pass, RefreshEnd refresh tree moment) r edge' control' origin opened replied
+      (left ∙ ap (λ (v : EdgeView). refresh_end_after v pass refresh tree (find (is_named refresh pass) v.refreshes)) s.edge ∙ sym (squares.refresh_end_leaves w pass refresh tree moment))
+      (refresh_moved w control control' s.control pass refresh tree moment r replied ended answer moved) s.origin
+      (s.opened ∙ sym (squares.refresh_end_opens w pass refresh tree moment))
 
 module _ (made : Made) (h : History) (edge edge' : EdgeView) (control : ControlView) (origin : List ℕ) (opened : ℕ) (s : Follows (state edge control origin opened) made h) where
   pub admit_told : (pass : ℕ) (asked : Asked) (place : Place) (moment many : ℕ) (a : Admitted) (r : Reply) → a ≡ admit_reply edge opened asked place moment → edge' ≡ admit_after edge pass opened asked place moment
@@ -159,18 +211,6 @@ module _ (made : Made) (h : History) (edge edge' : EdgeView) (control : ControlV
       (left ∙ ap (λ v. admit_after v pass opened asked place moment) s.edge ∙ ap (λ n. admit_after (edge_of w) pass n asked place moment) s.opened ∙ sym (squares.admit_leaves w pass asked place moment (placed made h)))
       (s.control ∙ control_kept w (pass, Admit asked place moment) r replied refl (ap cut_file answer ∙ no_cut a) refl (ap created_trigger answer ∙ none_created a)) s.origin
       (ap (λ n. n + many) s.opened ∙ ap (λ n. w.counts.opened + n) (counted ∙ sym (ap opened_by answer)) ∙ after_opens w (pass, Admit asked place moment) r replied)
-      s.untriggered
-
-  pub fetch_end_told : (pass fetch : ℕ) (outcome : Outcome) (moment : ℕ) (ended : Option Bool) (r : Reply) → ended ≡ fetch_end_reply edge outcome (find (is_named fetch pass) edge.fetches)
-      → edge' ≡ fetch_end_after edge pass fetch outcome (find (is_named fetch pass) edge.fetches) → r ≡ fetch_ended fetch ended → Says made h (pass, FetchEnd fetch outcome moment) r (state edge' control origin opened)
-  fetch_end_told pass fetch outcome moment ended r is left answer =
-      let w : World = world_of made h in
-      let replied : r ≡ reply_in w (pass, FetchEnd fetch outcome moment) = answer ∙ ap (fetch_ended fetch) is ∙ ap (λ (v : EdgeView). fetch_ended fetch (fetch_end_reply v outcome (find (is_named fetch pass) v.fetches))) s.edge ∙ squares.fetch_end_replies w pass fetch outcome moment in
-      told made h (pass, FetchEnd fetch outcome moment) r edge' control origin opened replied
-      (left ∙ ap (λ (v : EdgeView). fetch_end_after v pass fetch outcome (find (is_named fetch pass) v.fetches)) s.edge ∙ sym (squares.fetch_end_leaves w pass fetch outcome moment))
-      (s.control ∙ control_kept w (pass, FetchEnd fetch outcome moment) r replied refl (ap cut_file answer ∙ no_cut_fetch fetch ended) (fetch_end_untriggered w pass fetch outcome moment s.untriggered ended r answer ∙ sym s.untriggered) (ap created_trigger answer ∙ none_created_fetch fetch ended)) s.origin
-      (s.opened ∙ sym (squares.fetch_end_opens w pass fetch outcome moment))
-      (fetch_end_untriggered w pass fetch outcome moment s.untriggered ended r answer)
 
   pub finish_told : (pass delivery status total entity moment : ℕ) (row : Option ℕ) (r : Reply) → row ≡ finish_reply edge (find (is_named delivery pass) edge.deliveries)
       → edge' ≡ finish_after edge pass delivery (row_of status total entity moment) (find (is_named delivery pass) edge.deliveries) → r ≡ finished delivery row
@@ -182,19 +222,6 @@ module _ (made : Made) (h : History) (edge edge' : EdgeView) (control : ControlV
       (left ∙ ap (λ (v : EdgeView). finish_after v pass delivery (row_of status total entity moment) (find (is_named delivery pass) v.deliveries)) s.edge ∙ sym (squares.finish_leaves w pass delivery status total entity moment))
       (s.control ∙ control_kept w (pass, Finish delivery status total entity moment) r replied refl (ap cut_file answer ∙ no_cut_finish delivery row) refl (ap created_trigger answer ∙ none_created_finish delivery row)) s.origin
       (s.opened ∙ sym (squares.finish_opens w pass delivery status total entity moment))
-      s.untriggered
-
-  pub refresh_end_told : (pass refresh : ℕ) (tree : Option TreeData) (moment : ℕ) (ended : RefreshEnded) (r : Reply) → ended ≡ refresh_end_reply edge refresh tree (find (is_named refresh pass) edge.refreshes)
-      → edge' ≡ refresh_end_after edge pass refresh tree (find (is_named refresh pass) edge.refreshes) → r ≡ refresh_ended refresh ended → Says made h (pass, RefreshEnd refresh tree moment) r (state edge' control origin opened)
-  refresh_end_told pass refresh tree moment ended r is left answer =
-      let w : World = world_of made h in
-      let replied : r ≡ reply_in w (pass, RefreshEnd refresh tree moment) = answer ∙ ap (refresh_ended refresh) is ∙ ap (λ (v : EdgeView). refresh_ended refresh (refresh_end_reply v refresh tree (find (is_named refresh pass) v.refreshes))) s.edge
-      ∙ squares.refresh_end_replies w pass refresh tree moment in
-      told made h (pass, RefreshEnd refresh tree moment) r edge' control origin opened replied
-      (left ∙ ap (λ (v : EdgeView). refresh_end_after v pass refresh tree (find (is_named refresh pass) v.refreshes)) s.edge ∙ sym (squares.refresh_end_leaves w pass refresh tree moment))
-      (s.control ∙ control_kept w (pass, RefreshEnd refresh tree moment) r replied refl (ap cut_file answer ∙ no_cut_refresh refresh ended) (refresh_end_untriggered w pass refresh tree moment s.untriggered ended r answer ∙ sym s.untriggered) (ap created_trigger answer ∙ none_created_refresh refresh ended)) s.origin
-      (s.opened ∙ sym (squares.refresh_end_opens w pass refresh tree moment))
-      (refresh_end_untriggered w pass refresh tree moment s.untriggered ended r answer)
 
   due_is : (moment : ℕ) (next : Option ℕ) → next ≡ next_due edge moment → next_due (edge_of (world_of made h)) moment ≡ next
   due_is moment next is = sym (is ∙ ap (λ v. next_due v moment) s.edge)
@@ -210,7 +237,6 @@ module _ (made : Made) (h : History) (edge edge' : EdgeView) (control : ControlV
       (s.edge ∙ sym (squares.not_due_leaves w pass moment next) ∙ sym (left_by w (pass, RefreshBegin moment) (reply.NotDue next) replied))
       (s.control ∙ control_kept w (pass, RefreshBegin moment) (reply.NotDue next) (sym replied) refl refl refl refl) s.origin
       (s.opened ∙ same_opened w.counts.opened ∙ after_opens w (pass, RefreshBegin moment) (reply.NotDue next) (sym replied))
-      s.untriggered
 
   pub full_told : (pass moment : ℕ) → None ≡ next_due edge moment → (opened == edge.limits.opened) ≡ true → Says made h (pass, RefreshBegin moment) (reply.Full opened) (state edge control origin opened)
   full_told pass moment is full =
@@ -220,7 +246,6 @@ module _ (made : Made) (h : History) (edge edge' : EdgeView) (control : ControlV
       (s.edge ∙ sym (squares.full_leaves w pass moment w.counts.opened) ∙ sym (left_by w (pass, RefreshBegin moment) (reply.Full w.counts.opened) replied))
       (s.control ∙ control_kept w (pass, RefreshBegin moment) (reply.Full w.counts.opened) (sym replied) refl refl refl refl) s.origin
       (s.opened ∙ same_opened w.counts.opened ∙ after_opens w (pass, RefreshBegin moment) (reply.Full w.counts.opened) (sym replied))
-      s.untriggered
 
   pub due_told : (pass moment refresh : ℕ) → None ≡ next_due edge moment → (opened == edge.limits.opened) ≡ false → refresh ≡ edge.refreshed + 1 → edge' ≡ begin_after edge pass moment (began.Due refresh)
       → Says made h (pass, RefreshBegin moment) (reply.Due refresh) (state edge' control origin (opened + 1))
@@ -232,7 +257,6 @@ module _ (made : Made) (h : History) (edge edge' : EdgeView) (control : ControlV
       (left ∙ ap (λ v. begin_after v pass moment (began.Due refresh)) s.edge ∙ sym (squares.due_leaves w pass moment (placed made h) refresh) ∙ sym (left_by w (pass, RefreshBegin moment) (reply.Due refresh) replied))
       (s.control ∙ control_kept w (pass, RefreshBegin moment) (reply.Due refresh) (sym replied) refl refl refl refl) s.origin
       (ap (λ n. n + 1) s.opened ∙ after_opens w (pass, RefreshBegin moment) (reply.Due refresh) (sym replied))
-      s.untriggered
 
 due_of : Began → ℕ
 due_of (began.Due refresh) = refresh
@@ -246,36 +270,56 @@ forced_number edge refresh b one two = ap due_of (sym one ∙ two)
 -- ---- soundness
 
 pub sound_at_start : (limits : Bounds) (v : EdgeView) (control : ControlView) → AreInRange limits → v ≡ empty limits → control ≡ no_files limits → IsSound v control 0
-sound_at_start limits v control range is none = rw (is, none) (record { begun = omega arith; fetched = omega arith; few = omega arith; limit = range.opened.1; most = refl })
+sound_at_start limits v control range is none = rw (is, none) (record { begun = omega arith; fetched = omega arith; few = omega arith; limit = range.opened.1; most_files = refl; most_triggers = refl })
 
 module _ (edge : EdgeView) (control : ControlView) (opened : ℕ) (s : IsSound edge control opened) where
+  pub sound_changed : (triggers : List Trigger) → IsSound edge (with_triggers control triggers) opened
+  sound_changed triggers = record { begun = s.begun; fetched = s.fetched; few = s.few; limit = s.limit; most_files = s.most_files; most_triggers = s.most_triggers }
+
+  sound_fetch_told : (fetch : ℕ) (ended : Option Bool) (good : Bool) → IsSound edge (fetch_told control fetch ended good) opened
+  sound_fetch_told fetch None good = s
+  sound_fetch_told fetch (Some kept) good = sound_changed (ended_fetch fetch good control.triggers.triggers)
+
+  sound_refresh_told : (refresh : ℕ) (ended : RefreshEnded) → IsSound edge (refresh_told control refresh ended) opened
+  sound_refresh_told refresh (ended_as.Installed generation) = sound_changed (ended_refresh refresh true control.triggers.triggers)
+  sound_refresh_told refresh (ended_as.Stale trigger) = sound_changed (ended_refresh refresh false control.triggers.triggers)
+  sound_refresh_told refresh (ended_as.Older later) = sound_changed (ended_refresh refresh false control.triggers.triggers)
+  sound_refresh_told refresh ended_as.Failed = sound_changed (ended_refresh refresh false control.triggers.triggers)
+  sound_refresh_told refresh ended_as.NotOpen = s
+
+  pub fetch_told_sound : (control' : ControlView) (fetch : ℕ) (ended : Option Bool) (good : Bool) → control' ≡ fetch_told control fetch ended good → IsSound edge control' opened
+  fetch_told_sound control' fetch ended good is = rw is (sound_fetch_told fetch ended good)
+
+  pub refresh_told_sound : (control' : ControlView) (refresh : ℕ) (ended : RefreshEnded) → control' ≡ refresh_told control refresh ended → IsSound edge control' opened
+  refresh_told_sound control' refresh ended is = rw is (sound_refresh_told refresh ended)
+
   pub sound_fetch_end : (pass fetch : ℕ) (outcome : Outcome) (found : Option (Open Flight)) → IsSound (fetch_end_after edge pass fetch outcome found) control opened
   sound_fetch_end pass fetch outcome None = s
-  sound_fetch_end pass fetch outcome (Some flight) = record { begun = s.begun; fetched = s.fetched; few = s.few; limit = s.limit; most = s.most }
+  sound_fetch_end pass fetch outcome (Some flight) = record { begun = s.begun; fetched = s.fetched; few = s.few; limit = s.limit; most_files = s.most_files; most_triggers = s.most_triggers }
 
   pub sound_finish : (pass delivery : ℕ) (row : Admission → Row) (found : Option (Open Admission)) → IsSound (finish_after edge pass delivery row found) control opened
   sound_finish pass delivery row None = s
-  sound_finish pass delivery row (Some one) = record { begun = s.begun; fetched = s.fetched; few = s.few; limit = s.limit; most = s.most }
+  sound_finish pass delivery row (Some one) = record { begun = s.begun; fetched = s.fetched; few = s.few; limit = s.limit; most_files = s.most_files; most_triggers = s.most_triggers }
 
   sound_install : (pass refresh moment : ℕ) (brought : TreeData) (later : Option ℕ)
       → IsSound (install_after (record edge { refreshes = unnamed refresh pass edge.refreshes }) refresh brought moment (install_reply edge later)) control opened
-  sound_install pass refresh moment brought None = record { begun = s.begun; fetched = s.fetched; few = s.few; limit = s.limit; most = s.most }
-  sound_install pass refresh moment brought (Some later) = record { begun = s.begun; fetched = s.fetched; few = s.few; limit = s.limit; most = s.most }
+  sound_install pass refresh moment brought None = record { begun = s.begun; fetched = s.fetched; few = s.few; limit = s.limit; most_files = s.most_files; most_triggers = s.most_triggers }
+  sound_install pass refresh moment brought (Some later) = record { begun = s.begun; fetched = s.fetched; few = s.few; limit = s.limit; most_files = s.most_files; most_triggers = s.most_triggers }
 
   sound_fresh : (pass refresh moment : ℕ) (brought : TreeData) (hit : Option ℕ)
       → IsSound (install_after (record edge { refreshes = unnamed refresh pass edge.refreshes }) refresh brought moment (fresh_reply edge refresh hit)) control opened
-  sound_fresh pass refresh moment brought (Some trigger) = record { begun = s.begun; fetched = s.fetched; few = s.few; limit = s.limit; most = s.most }
+  sound_fresh pass refresh moment brought (Some trigger) = record { begun = s.begun; fetched = s.fetched; few = s.few; limit = s.limit; most_files = s.most_files; most_triggers = s.most_triggers }
   sound_fresh pass refresh moment brought None = sound_install pass refresh moment brought (newer edge refresh)
 
   pub sound_refresh_end : (pass refresh : ℕ) (tree : Option TreeData) (found : Option (Open Refreshing)) → IsSound (refresh_end_after edge pass refresh tree found) control opened
   sound_refresh_end pass refresh tree None = s
-  sound_refresh_end pass refresh None (Some begun) = record { begun = s.begun; fetched = s.fetched; few = s.few; limit = s.limit; most = s.most }
+  sound_refresh_end pass refresh None (Some begun) = record { begun = s.begun; fetched = s.fetched; few = s.few; limit = s.limit; most_files = s.most_files; most_triggers = s.most_triggers }
   sound_refresh_end pass refresh (Some brought) (Some begun) = sound_fresh pass refresh begun.what.moment brought (first_noted brought.resources begun.what.since)
 
   sound_due : (pass moment : ℕ) → (opened == edge.limits.opened) ≡ false → IsSound (begin_after edge pass moment (began.Due (edge.refreshed + 1))) control (opened + 1)
   sound_due pass moment room =
       let other = eqb-false opened edge.limits.opened room in
-      record { begun = (let b = s.begun in omega arith); fetched = s.fetched; few = (let f = s.few in omega arith); limit = s.limit; most = s.most }
+      record { begun = (let b = s.begun in omega arith); fetched = (let f = s.fetched in omega arith); few = (let f = s.few in omega arith); limit = s.limit; most_files = s.most_files; most_triggers = s.most_triggers }
 
   pub due_sound : (edge' : EdgeView) (pass moment refresh : ℕ) → (opened == edge.limits.opened) ≡ false → refresh ≡ edge.refreshed + 1 → edge' ≡ begin_after edge pass moment (began.Due refresh) → IsSound edge' control (opened + 1)
   due_sound edge' pass moment refresh room is left =
@@ -285,11 +329,12 @@ module _ (edge : EdgeView) (control : ControlView) (opened : ℕ) (s : IsSound e
   sound_admit pass asked place moment =
       let g = admit_grows edge opened pass asked place moment in
       record {
-        begun = omega (arith, s.begun, g.delivered, g.refreshed);
-        fetched = omega (arith, s.fetched, g.delivered, g.fetched);
+        begun = omega (arith, s.begun, g.delivered, g.refreshed, g.started);
+        fetched = omega (arith, s.fetched, g.fetched);
         few = rw g.limits (g.few s.few);
         limit = rw g.limits s.limit;
-        most = s.most ∙ ap (λ (b : Bounds). b.files) (sym g.limits);
+        most_files = s.most_files ∙ ap (λ (b : Bounds). b.files) (sym g.limits);
+        most_triggers = s.most_triggers ∙ ap (λ (b : Bounds). b.triggers) (sym g.limits);
       }
 
   pub admit_sound : (edge' : EdgeView) (pass : ℕ) (asked : Asked) (place : Place) (moment many : ℕ) (a : Admitted) → a ≡ admit_reply edge opened asked place moment

@@ -1,6 +1,6 @@
 -- What is said of calls: which end something, and how a journal keeps them.
-use Rattle.std.specs.Prelude.{Bool, true, false, List, map, None}
-use Rattle.history.specs.Event.{Entry, Event, History, Admit, FetchEnd, Finish, RefreshBegin, RefreshEnd, Command, event_of}
+use Rattle.std.specs.Prelude.{Bool, true, false, None}
+use Rattle.history.specs.Event.{Entry, Event, FetchEnd, Finish, RefreshEnd, event_of}
 use Rattle.upstream_gate.specs.declared.outcome.Outcome.TheVariants.{Failed}
 use Rattle.node_core.specs.declared.entered.Entered.{Entered}
 
@@ -10,11 +10,6 @@ is_end (FetchEnd fetch outcome moment) = true
 is_end (RefreshEnd refresh tree moment) = true
 is_end (Finish delivery status total entity moment) = true
 is_end event = false
-
--- a command of the upstream CDN
-abbrev pub is_command : Event → Bool
-is_command (Command spec moment) = true
-is_command event = false
 
 -- without what a fetch or a refresh brought
 abbrev pub stripped_event : Event → Event

@@ -1,5 +1,5 @@
 -- What is said of a home: a node that passes call, one of them through it.
-use Rattle.std.specs.Prelude.{◌≡◌, ℕ, List, [], ◌∷◌, ◌++◌}
+use Rattle.std.specs.Prelude.{◌≡◌, ℕ, [], ◌∷◌, ◌++◌}
 use Rattle.history.specs.After.{begun_delivery, begun_fetch, begun_refresh}
 use Rattle.history.specs.Event.{Event, History, FetchEnd, Finish, RefreshEnd}
 use Rattle.history.specs.History.{reply_to}

@@ -5,3 +5,4 @@ pub mod Logs
 pub mod Law
 pub mod Answers
 pub mod Home
+pub mod Triggering

@@ -1,5 +1,5 @@
 -- What a node stands for.
-use Rattle.std.specs.Prelude.{◌≡◌, List, [], ◌∷◌, ◌++◌, map}
+use Rattle.std.specs.Prelude.{◌≡◌, [], ◌∷◌, ◌++◌, map}
 use Rattle.history.specs.Event.{Entry, History}
 use Rattle.history.specs.History.{reply_to}
 use Rattle.history.specs.World.{Made}

@@ -1,5 +1,5 @@
 -- What the calls of a node leave.
-use Rattle.std.specs.Prelude.{◌≡◌, ℕ, ◌+◌, ◌<◌, ◌≤◌, ◌^◌, Bool, true, false, not, List, [], ◌∷◌, ◌++◌, length}
+use Rattle.std.specs.Prelude.{◌≡◌, ℕ, ◌+◌, ◌<◌, ◌≤◌, ◌^◌, Bool, true, false, not, List, [], ◌∷◌, ◌++◌}
 use Rattle.std.specs.List.{list_any}
 use Rattle.control_core.specs.Control.{ControlView}
 use Rattle.delivery_core.specs.Edge.{EdgeView}
@@ -13,7 +13,8 @@ use Rattle.node_core.specs.Logs.{control_of}
 use Rattle.history.specs.declared.reply.Reply.{Reply}
 use Rattle.history.specs.declared.reply.Reply.TheVariants as reply
 
--- what is installed, kept and open, the log files and the host that they claim, and how many answers opened something
+-- what is installed, kept and open, the triggers and log files, the host that the files claim, and how many answers opened
+-- something
 pub record StateView : Type 0 where
   pub edge : EdgeView
   pub control : ControlView
@@ -22,11 +23,12 @@ pub record StateView : Type 0 where
 
 -- whatever was begun has opened something, and not more was opened than the limit
 pub record IsSound (edge : EdgeView) (control : ControlView) (opened : ℕ) : Type 0 where
-  pub begun : edge.delivered + edge.refreshed + control.filed ≤ opened
-  pub fetched : edge.fetched ≤ edge.delivered
+  pub begun : edge.delivered + edge.refreshed + edge.started + control.filed + control.triggers.created ≤ opened
+  pub fetched : edge.fetched ≤ opened
   pub few : opened ≤ edge.limits.opened
   pub limit : edge.limits.opened ≤ 2 ^ 62
-  pub most : control.most ≡ edge.limits.files
+  pub most_files : control.most ≡ edge.limits.files
+  pub most_triggers : control.triggers.most ≡ edge.limits.triggers
 
 -- the state is what this leaves
 pub record IsLeft (v : StateView) (w : World) : Type 0 where
@@ -34,7 +36,6 @@ pub record IsLeft (v : StateView) (w : World) : Type 0 where
   pub control : v.control ≡ control_of w
   pub origin : v.origin ≡ w.made.origin
   pub opened : v.opened ≡ w.counts.opened
-  pub untriggered : w.controlling.triggers ≡ []
 
 -- the state is what the history leaves of a node that is made so
 abbrev pub Follows : StateView → Made → History → Type 0
@@ -62,8 +63,3 @@ pub record Ends (old new : StateView) (there : Bool) (answer : Reply) : Type 0 w
   pub found : is_not_open answer ≡ not there
   pub closed : there ≡ false → new ≡ old
   pub freed : there ≡ true → open_count new.edge < open_count old.edge
-
--- the reply to a cancel where there is no trigger
-abbrev pub cancel_of_none : List ℕ → Reply
-cancel_of_none [] = reply.Statuses []
-cancel_of_none (id ∷ ids) = reply.Unknown id

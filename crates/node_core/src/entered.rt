@@ -2,9 +2,10 @@
 
 ghost use Rattle.std.specs.Prelude.{◌≡◌, IfOk, true, false};
 ghost use Rattle.history.specs.Event.{event_of};
-ghost use Rattle.node_core.specs.Call.{is_command, is_end, stripped_event};
+ghost use Rattle.node_core.specs.Call.{is_end, stripped_event};
 
 use history::Call;
+use listing::Listing;
 use std::alloc::{AllocError, Global};
 use upstream_gate::Outcome;
 
@@ -68,8 +69,7 @@ pub(crate) fn stripped(call: &Call) -> Call
 
 // a copy of a call that ends nothing
 pub(crate) fn copied(alloc: Global, call: &Call) -> Result<Call, AllocError>
-    requires ends { is_end (event_of call.now) ≡ false }
-    requires commands { is_command (event_of call.now) ≡ false }
+    requires { is_end (event_of call.now) ≡ false }
     ensures { IfOk result (λ copy. event_of copy ≡ stripped_event (event_of call.now)) }
 {
     match call {
@@ -83,12 +83,16 @@ pub(crate) fn copied(alloc: Global, call: &Call) -> Result<Call, AllocError>
             moment: *moment,
         }),
         Call::RefreshBegin { moment } => Ok(Call::RefreshBegin { moment: *moment }),
+        Call::Command { spec, moment } => Ok(Call::Command {
+            spec: spec.clone()?,
+            moment: *moment,
+        }),
         Call::Advance { id, moment } => Ok(Call::Advance {
             id: *id,
             moment: *moment,
         }),
         Call::Cancel { ids, moment } => Ok(Call::Cancel {
-            ids: ids.clone()?,
+            ids: copy_of(ids)?,
             moment: *moment,
         }),
         Call::Delete { id } => Ok(Call::Delete { id: *id }),
@@ -100,4 +104,10 @@ pub(crate) fn copied(alloc: Global, call: &Call) -> Result<Call, AllocError>
         Call::DropLog { number } => Ok(Call::DropLog { number: *number }),
         _ => unreachable!(),
     }
+}
+
+fn copy_of(ids: &Listing<u64>) -> Result<Listing<u64>, AllocError>
+    ensures { IfOk result (λ copy. copy ≡ ids.now) }
+{
+    Ok(ids.clone()?)
 }

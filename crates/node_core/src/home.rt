@@ -5,7 +5,6 @@ ghost use Rattle.std.proofs.Common.{◌∙◌};
 ghost use Rattle.history.specs.Event.{History, event_of};
 ghost use Rattle.history.specs.World.{Made};
 ghost use Rattle.node_core.specs.Answers.{answers};
-ghost use Rattle.node_core.specs.Call.{is_command};
 ghost use Rattle.node_core.specs.Home.{AreOf, EndsOpen, IsAnswered, IsUnanswered, Who};
 ghost use Rattle.node_core.specs.Node.{NodeView, Stands};
 
@@ -36,7 +35,6 @@ pub trait Home: Drop {
         alloc: Global,
         call: Call,
     ) -> Result<Reply, AllocError>
-        requires { is_command (event_of call) ≡ false }
         ensures who { who self.new ≡ who self.old }
         ensures stays { stays self.old self.new }
         ensures kind { IfOk result (λ r. answers (event_of call) r ≡ true) }

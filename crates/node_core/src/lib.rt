@@ -3,10 +3,12 @@
 
 mod entered;
 mod home;
+mod law;
 mod node;
 mod state;
 
 pub use entered::Entered;
 pub use history::{Call, Reply};
 pub use home::{Home, OneHome};
+pub use law::every_answer_is_lawful;
 pub use node::Node;

@@ -4,7 +4,7 @@ ghost use Rattle.std.specs.Prelude.{◌≡◌, ◌+◌, ◌^◌, ◌<◌, ◌≤
 ghost use Rattle.history.specs.Event.{History, event_of};
 ghost use Rattle.history.specs.World.{Made};
 ghost use Rattle.node_core.specs.Answers.{answers};
-ghost use Rattle.node_core.specs.Call.{is_command, is_end};
+ghost use Rattle.node_core.specs.Call.{is_end};
 ghost use Rattle.delivery_core.specs.OpenCount.{begun_count};
 ghost use Rattle.node_core.specs.State.{ends_open, is_not_open};
 ghost use Rattle.node_core.specs.Home.{EndsOpen};
@@ -12,11 +12,9 @@ ghost use Rattle.node_core.specs.Law.{IsLawful};
 ghost use Rattle.node_core.specs.Node.{Stands, Tells};
 
 use crate::entered::{Entered, copied, is_end, stripped};
+use crate::law::every_answer_is_lawful;
 use crate::state::State;
 use cdni_base::{Limits, Text};
-use delivery_law::fetches::{a_hit_gives_what_one_fetch_brought, a_miss_begins_its_own_fetch};
-use delivery_law::log_rows::each_row_belongs_to_one_finish_and_one_admit;
-use delivery_law::metadata::an_admission_uses_metadata_that_no_start_has_hit;
 use history::laws::what_is_open_has_begun_and_not_ended;
 use history::{Call, Reply};
 use journal::Journal;
@@ -90,7 +88,6 @@ impl Node {
     /// Want of memory, but for the end of a fetch, of a refresh or of a delivery that the pass has open, which takes none.
     /// The node is then as before, and what the call carried is lost.
     pub fn call(&mut self, alloc: Global, pass: u32, call: Call) -> Result<Reply, AllocError>
-        requires { is_command (event_of call) ≡ false }
         ensures told { (made : Made) (h : History) → Stands self.old made h
             → IfOk result (λ r. Tells made h (pass, event_of call) r self.new) }
         ensures lawful { (made : Made) (h : History) → Stands self.old made h
@@ -101,16 +98,12 @@ impl Node {
             → IsOk result }
         ensures err { OnErr result (self.new ≡ self.old) }
     {
-        a_hit_gives_what_one_fetch_brought();
-        a_miss_begins_its_own_fetch();
-        an_admission_uses_metadata_that_no_start_has_hit();
-        each_row_belongs_to_one_finish_and_one_admit();
+        every_answer_is_lawful();
         what_is_open_has_begun_and_not_ended();
         self.take_in(alloc, pass, call)
     }
 
     fn take_in(&mut self, alloc: Global, pass: u32, call: Call) -> Result<Reply, AllocError>
-        requires { is_command (event_of call) ≡ false }
         ensures told { (made : Made) (h : History) → Stands self.old made h
             → IfOk result (λ r. Tells made h (pass, event_of call) r self.new) }
         ensures kind { IfOk result (λ r. answers (event_of call) r ≡ true) }
@@ -154,8 +147,7 @@ impl Node {
 
     // another call: what it opens has its places
     fn begin(&mut self, alloc: Global, pass: u32, call: Call) -> Result<Reply, AllocError>
-        requires ends { is_end (event_of call) ≡ false }
-        requires commands { is_command (event_of call) ≡ false }
+        requires { is_end (event_of call) ≡ false }
         ensures told { (made : Made) (h : History) → Stands self.old made h
             → IfOk result (λ r. Tells made h (pass, event_of call) r self.new) }
         ensures kind { IfOk result (λ r. answers (event_of call) r ≡ true) }
@@ -257,7 +249,11 @@ fn begun_count(reply: &Reply) -> usize
     ensures few { result ≤ 2 }
 {
     match reply {
-        Reply::Denied { .. } | Reply::Hit { .. } | Reply::Due { .. } => 1,
+        Reply::Denied { .. }
+        | Reply::Hit { .. }
+        | Reply::Due { .. }
+        | Reply::Fetch { .. }
+        | Reply::Refresh { .. } => 1,
         Reply::Miss { .. } => 2,
         _ => 0,
     }

@@ -5,14 +5,15 @@ ghost use Rattle.std.specs.List.{list_any};
 ghost use Rattle.std.specs.Option.{option_map};
 ghost use Rattle.delivery_core.specs.Open.{is_named};
 ghost use Rattle.delivery_core.specs.Traces.{reply_of, fetch_ended, finished, refresh_ended};
-ghost use Rattle.history.specs.After.{opened_by};
+ghost use Rattle.history.specs.After.{is_fetched, opened_by};
 ghost use Rattle.history.specs.Event.{History, event_of, Admit, FetchEnd, Finish, RefreshBegin, RefreshEnd, Cut, DropLog, ListLogs, LogFile};
 ghost use Rattle.metadata_objects.specs.Tree.{tree_view};
 ghost use Rattle.history.specs.World.{Made};
 ghost use Rattle.node_core.specs.Answers.{answers, answers_admit, answers_cut, answers_drop_log, answers_finish, answers_fetch_end, answers_list_logs, answers_log_file, answers_refresh_begin, answers_refresh_end};
-ghost use Rattle.node_core.specs.Call.{is_command, is_end};
+ghost use Rattle.node_core.specs.Call.{is_end};
 ghost use Rattle.delivery_core.specs.OpenCount.{begun_count, open_count};
-ghost use Rattle.node_core.specs.State.{cancel_of_none, ends_open, Ends, Follows, Says};
+ghost use Rattle.node_core.specs.State.{ends_open, Ends, Follows, Says};
+ghost use Rattle.node_core.specs.Triggering.{fetch_told, refresh_told};
 ghost use Rattle.node_core.specs.Logs.{dropped_log, logged};
 
 use cdni_base::{Asked, Limits, Moment, Text};
@@ -20,13 +21,13 @@ use cdni_log::FileHead;
 use control_core::Control;
 use delivery_core::{Admitted, Began, Edge, RefreshEnded};
 use history::{Call, Reply};
-use listing::Listing;
 use location_acl::Place;
 use metadata_objects::Tree;
 use std::alloc::{AllocError, Global};
 use std::marker::Model;
-use trigger_command::IdList;
 use upstream_gate::Outcome;
+
+mod triggers;
 
 /// What is installed, kept and open, the log files with the host that they claim, and how many answers opened something.
 #[derive(Drop)]
@@ -112,8 +113,7 @@ impl State {
     /// # Errors
     /// Want of memory. Nothing has changed then.
     pub fn call(&mut self, alloc: Global, pass: u32, call: Call) -> Result<Reply, AllocError>
-        requires ends { is_end (event_of call) ≡ false }
-        requires commands { is_command (event_of call) ≡ false }
+        requires { is_end (event_of call) ≡ false }
         ensures told { (made : Made) (h : History) → Follows self.old made h
             → IfOk result (λ r. Says made h (pass, event_of call) r self.new) }
         ensures kind { IfOk result (λ r. answers (event_of call) r ≡ true) }
@@ -132,14 +132,12 @@ impl State {
             Call::LogFile { number } => self.log_file(number),
             Call::ListLogs => self.list_logs(alloc),
             Call::DropLog { number } => Ok(self.drop_log(number)),
-            Call::Advance { id, moment: _ } => Ok(Reply::Unknown { id }),
-            Call::Delete { id } => Ok(Reply::Unknown { id }),
-            Call::ReadStatus { id } => Ok(Reply::Unknown { id }),
-            Call::Cancel { ids, moment: _ } => Ok(no_cancel(alloc, &ids)),
-            Call::List { filter } => Ok(Reply::Collection {
-                filter,
-                ids: Listing::new(alloc),
-            }),
+            Call::Command { spec, moment } => self.command(alloc, spec, moment),
+            Call::Advance { id, moment } => self.advance(alloc, pass, id, moment),
+            Call::Cancel { ids, moment } => self.cancel(alloc, &ids, moment),
+            Call::Delete { id } => Ok(self.delete(id)),
+            Call::ReadStatus { id } => self.read_status(id),
+            Call::List { filter } => self.list(alloc, filter),
             _ => unreachable!(),
         }
     }
@@ -181,6 +179,7 @@ impl State {
         ensures ends { Ends self.old self.new (list_any (is_named refresh pass) self.old.edge.refreshes) result }
     {
         let ended = self.edge.refresh_end(pass, refresh, tree);
+        end_refresh(&mut self.control, refresh, ended);
         reply_of_refresh(refresh, ended)
     }
 
@@ -213,7 +212,9 @@ impl State {
         ensures origin { self.new.origin ≡ self.old.origin }
         ensures ends { Ends self.old self.new (list_any (is_named fetch pass) self.old.edge.fetches) result }
     {
+        let good = is_fetched(&outcome);
         let ended = self.edge.fetch_end(pass, fetch, outcome);
+        end_fetch(&mut self.control, fetch, ended, good);
         reply_of_fetch(fetch, ended)
     }
 
@@ -403,14 +404,32 @@ fn reply_of_refresh(refresh: u64, ended: RefreshEnded) -> Reply
     }
 }
 
-// the reply to a cancel where there is no trigger
-fn no_cancel(alloc: Global, ids: &IdList) -> Reply
-    ensures { result ≡ cancel_of_none ids.now }
+// whether the fetch brought its content
+fn is_fetched(outcome: &Outcome) -> bool
+    ensures { result ≡ is_fetched outcome.now }
 {
-    match ids.as_slice() {
-        [] => Reply::Statuses {
-            list: Listing::new(alloc),
-        },
-        [first, ..] => Reply::Unknown { id: *first },
+    match outcome {
+        Outcome::Got(got) => got.status() == 200,
+        _ => false,
+    }
+}
+
+// the trigger that waits for a fetch which ended so goes on
+fn end_fetch(control: &mut Control, fetch: u64, ended: Option<bool>, good: bool)
+    ensures { control.new ≡ fetch_told control.old fetch ended good }
+{
+    if ended.is_some() {
+        control.fetch_ended(fetch, good);
+    }
+}
+
+// the trigger that waits for a refresh which ended so goes on
+fn end_refresh(control: &mut Control, refresh: u64, ended: RefreshEnded)
+    ensures { control.new ≡ refresh_told control.old refresh ended }
+{
+    match ended {
+        RefreshEnded::NotOpen => (),
+        RefreshEnded::Installed { .. } => control.refresh_ended(refresh, true),
+        _ => control.refresh_ended(refresh, false),
     }
 }

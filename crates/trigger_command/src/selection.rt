@@ -1,6 +1,6 @@
 //! What a trigger selects (RFC 8007, section 5.2.1).
 
-ghost use Rattle.std.specs.Prelude.{◌≡◌, ◌↔◌, IsTrue, min};
+ghost use Rattle.std.specs.Prelude.{◌≡◌, ◌↔◌, IfOk, IsTrue, min};
 ghost use Rattle.std.specs.List.{list_any};
 ghost use Rattle.std.specs.Option.{option_map};
 ghost use Rattle.trigger_command.specs.Selection.{hits, hits_metadata, is_ccid, pattern_hits, url_hits};
@@ -8,6 +8,7 @@ ghost use Rattle.trigger_command.specs.Selection.{hits, hits_metadata, is_ccid, 
 use cdni_base::Key;
 use listing::{Listing, Text, TextList};
 use pattern_match::Pattern;
+use std::alloc::AllocError;
 use targets::Target;
 
 /// A URL as it was sent, and what it names.
@@ -34,13 +35,27 @@ pub struct PatternItem {
 pub type PatternItemList = Listing<PatternItem>;
 
 /// The metadata and the content that a trigger selects (RFC 8007, section 5.2.1).
-#[derive(Clone, Drop)]
+#[derive(Drop)]
 pub struct Selection {
     pub metadata_urls: UrlItemList,
     pub content_urls: UrlItemList,
     pub ccids: TextList,
     pub metadata_patterns: PatternItemList,
     pub content_patterns: PatternItemList,
+}
+
+impl Clone for Selection {
+    ghost is_clone = { λ selection copy. copy ≡ selection };
+
+    fn clone(&self) -> Result<Selection, AllocError> {
+        Ok(Selection {
+            metadata_urls: url_copies(&self.metadata_urls)?,
+            content_urls: url_copies(&self.content_urls)?,
+            ccids: text_copies(&self.ccids)?,
+            metadata_patterns: pattern_copies(&self.metadata_patterns)?,
+            content_patterns: pattern_copies(&self.content_patterns)?,
+        })
+    }
 }
 
 impl UrlItem {
@@ -98,6 +113,24 @@ impl Selection {
     {
         has_metadata_hit(self, resource)
     }
+}
+
+fn url_copies(list: &UrlItemList) -> Result<UrlItemList, AllocError>
+    ensures { IfOk result (λ copy. copy ≡ list.now) }
+{
+    Ok(list.clone()?)
+}
+
+fn text_copies(list: &TextList) -> Result<TextList, AllocError>
+    ensures { IfOk result (λ copy. copy ≡ list.now) }
+{
+    Ok(list.clone()?)
+}
+
+fn pattern_copies(list: &PatternItemList) -> Result<PatternItemList, AllocError>
+    ensures { IfOk result (λ copy. copy ≡ list.now) }
+{
+    Ok(list.clone()?)
 }
 
 #[tactic(auto, unfolding(crate::specs::Selection::hits))]

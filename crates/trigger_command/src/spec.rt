@@ -5,6 +5,7 @@ ghost use Rattle.trigger_command.specs.declared.spec.TheConstants.{SELECTION_MAX
 ghost use Rattle.trigger_command.specs.Selection.{item_count};
 
 use crate::selection::Selection;
+use std::alloc::AllocError;
 use std::marker::Model;
 
 /// The most items of one selection, in its five lists together.
@@ -23,7 +24,7 @@ pub enum TriggerKind {
 
 /// A trigger specification (RFC 8007, section 5.2.1): its kind and a selection of at most 1,000 items, in its five
 /// lists together. It is seen as the two.
-#[derive(Clone, Drop)]
+#[derive(Drop)]
 pub struct Spec {
     pub kind: TriggerKind,
     pub selection: Selection,
@@ -42,6 +43,17 @@ impl Model for Spec {
     ghost invariant = { λ s. item_count s.selection ≤ SELECTION_MAX };
 
     ghost inverse = { λ parts. record { kind = parts.kind; selection = parts.selection } };
+}
+
+impl Clone for Spec {
+    ghost is_clone = { λ spec copy. copy ≡ spec };
+
+    fn clone(&self) -> Result<Spec, AllocError> {
+        Ok(Spec {
+            kind: self.kind,
+            selection: self.selection.clone()?,
+        })
+    }
 }
 
 impl Spec {

@@ -1,4 +1,4 @@
-use Rattle.std.proofs.Common.{ap, subst, sym, ◌∙◌, arith, IsOk}
+use Rattle.std.proofs.Common.{ap, ◌∙◌, arith}
 use Rattle.node_core.proofs.NodeLemmas.{few_left, same_left, was_open, was_not_open, not_ok, on_err}
 use Rattle.node_core.proofs.node.Node.end.Goals as goal
 

@@ -1,4 +1,4 @@
-use Rattle.std.proofs.Common.{◌≡◌, ℕ, ◌<◌, ◌==◌, true, false, length, ap, sym, ◌∙◌, arith}
+use Rattle.std.proofs.Common.{length, ap, sym, ◌∙◌, arith}
 use Rattle.std.proofs.lemmas.Bool.{eq-eqb, ne_eqb}
 use Rattle.node_core.proofs.LogLemmas.{file_told, filed_by, full_told, heads_are, nothing_told, spent_told}
 use Rattle.node_core.proofs.state.State.cut.Goals as goal

@@ -1,4 +1,3 @@
-use Rattle.std.proofs.Common.{ap, ◌∙◌}
 use Rattle.node_core.proofs.LogLemmas.{log_ok}
 use Rattle.node_core.proofs.state.State.log_file.Goals as goal
 

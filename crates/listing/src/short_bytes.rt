@@ -8,13 +8,13 @@ use std::alloc::AllocError;
 use std::marker::Model;
 
 /// The most bytes of a short text.
-pub(crate) const SHORT_MAX: usize = 23;
+pub(crate) const SHORT_MAX: usize = 16;
 
-/// At most 23 bytes, in the value itself. It is seen as the list of them.
+/// At most 16 bytes, in the value itself. It is seen as the list of them.
 #[derive(Drop)]
 pub(crate) struct ShortBytes {
+    length: usize,
     bytes: [u8; SHORT_MAX],
-    length: u8,
 }
 
 impl Model for ShortBytes {
@@ -38,7 +38,7 @@ impl ShortBytes {
         kept[..bytes.len()].copy_from_slice(bytes);
         ShortBytes {
             bytes: kept,
-            length: bytes.len() as u8,
+            length: bytes.len(),
         }
     }
 
@@ -53,7 +53,7 @@ impl ShortBytes {
         front.make_ascii_lowercase();
         ShortBytes {
             bytes: kept,
-            length: bytes.len() as u8,
+            length: bytes.len(),
         }
     }
 
@@ -61,7 +61,7 @@ impl ShortBytes {
     pub fn bytes(&self) -> &[u8]
         ensures { result.now ≡ self.now }
     {
-        &self.bytes[..self.length as usize]
+        &self.bytes[..self.length]
     }
 }
 

@@ -13,7 +13,7 @@ use std::alloc::{AllocError, Global};
 use std::hash::{Hash, Hasher};
 use std::marker::Model;
 
-/// A text of bytes, of any values. It is seen as the list of them. At most 23 bytes stand in the value itself, and a part of
+/// A text of bytes, of any values. It is seen as the list of them. At most 16 bytes stand in the value itself, and a part of
 /// shared bytes has none of its own: neither these nor their copies take memory.
 #[derive(Drop)]
 pub struct Text {

@@ -41,6 +41,7 @@ fn texts_are_one_however_they_hold_their_bytes(rt: HostRuntime) -> Result<(), Fa
         texts.insert(Text::of(alloc, &bytes[..length])?)?;
         assert!(rt; texts.contains(&whole.front(length)?));
         assert!(rt; texts.contains(&whole.rest(bytes.len() - length)?.clone()?));
+        assert!(rt; texts.contains(&Text::shared(alloc, &bytes[..length])?.clone()?));
         assert!(rt; texts.contains(&Text::from_vec(bytes[..length].to_vec(alloc)?)));
         assert!(rt; texts.contains(&Text::lowered(alloc, &[b'A'; 100][..length])?.clone()?));
         assert!(rt; !texts.contains(&Text::of(alloc, b"aa")?));

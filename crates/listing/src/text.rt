@@ -7,7 +7,7 @@ ghost use Rattle.std.specs.Hash as fed;
 ghost use Rattle.std.specs.Hash.{same_Alike};
 ghost use Rattle.std.specs.Str.{str_to_ascii_lowercase};
 
-use crate::shared_bytes::SharedPart;
+use crate::shared_bytes::{SharedBytes, SharedPart};
 use crate::short_bytes::{SHORT_MAX, ShortBytes};
 use std::alloc::{AllocError, Global};
 use std::hash::{Hash, Hasher};
@@ -74,6 +74,19 @@ impl Text {
                 .map(|byte| byte.to_ascii_lowercase())
                 .collect(alloc)?,
         ))
+    }
+
+    /// A copy of `bytes`, whose own copies share its bytes.
+    ///
+    /// # Errors
+    /// Want of memory.
+    pub fn shared(alloc: Global, bytes: &[u8]) -> Result<Text, AllocError>
+        ensures { IfOk result (λ text. text ≡ bytes.now) }
+    {
+        if bytes.len() <= SHORT_MAX {
+            return Text::of(alloc, bytes);
+        }
+        SharedBytes::of(alloc, bytes)?.front(bytes.len())
     }
 
     /// The text of these bytes, which are moved and not copied.

@@ -3,6 +3,7 @@
 ghost use Rattle.std.specs.Prelude.{◌≡◌, ◌++◌, IfOk, OnOk};
 ghost use Rattle.targets.specs.Target.{scheme_text, port_text, query_text, url_of};
 
+use crate::byte::QUESTION;
 use crate::host_name::HostName;
 use crate::target::HTTP_PORT;
 use itoa::Buffer;
@@ -85,7 +86,7 @@ fn add_query(url: &mut Vec<u8>, query: &Option<Text>) -> Result<(), AllocError>
 {
     match query {
         Some(query) => {
-            url.extend_from_slice(b"?")?;
+            url.push(QUESTION)?;
             url.extend_from_slice(query.bytes())
         }
         None => Ok(()),

@@ -88,6 +88,6 @@ fed_ignored ignored.None = fed.u8 0
 fed_ignored ignored.All = fed.u8 1
 fed_ignored (ignored.Names names) = fed.u8 2 ++ fed.slice (fed.slice fed.u8) names
 
--- what a hasher is fed of a key: its URL
+-- what a hasher is fed of a key: its URL, in one piece
 abbrev pub fed_key : KeyParts → HashWrites
-fed_key key = fed.slice fed.u8 (key_text false true key)
+fed_key key = key_text false true key ∷ []

@@ -2,14 +2,14 @@
 
 ghost use Rattle.std.specs.Prelude.{◌≡◌, IfOk};
 
-use bytes::Bytes;
+use listing::Text;
 use std::alloc::{AllocError, Global};
 use std::marker::Model;
 
 /// Bytes that several owners hold. It is seen as the list of them.
 #[derive(Drop)]
 pub struct Body {
-    bytes: Bytes,
+    text: Text,
 }
 
 impl Model for Body {
@@ -17,7 +17,7 @@ impl Model for Body {
 
     ghost Value = { List ℕ };
 
-    ghost view = { λ b. b.bytes };
+    ghost view = { λ b. b.text };
 }
 
 impl Body {
@@ -29,11 +29,11 @@ impl Body {
         ensures { IfOk result (λ body. body ≡ bytes.now) }
     {
         Ok(Body {
-            bytes: Bytes::copy_from_slice(alloc, bytes)?,
+            text: Text::shared(alloc, bytes)?,
         })
     }
 
-    /// One more owner of the same bytes, of which none is copied.
+    /// One more owner of the same bytes, of which none is copied but where there are at most 16.
     ///
     /// # Errors
     /// Want of memory.
@@ -41,7 +41,7 @@ impl Body {
         ensures { IfOk result (λ body. body ≡ self.now) }
     {
         Ok(Body {
-            bytes: self.bytes.clone()?,
+            text: self.text.clone()?,
         })
     }
 
@@ -49,6 +49,6 @@ impl Body {
     pub fn bytes(&self) -> &[u8]
         ensures { result.now ≡ self.now }
     {
-        self.bytes.as_slice()
+        self.text.bytes()
     }
 }

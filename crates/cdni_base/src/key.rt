@@ -1,10 +1,10 @@
 //! Cache keys: what of a target tells one kept object from another.
 
-ghost use Rattle.std.specs.Prelude.{◌≡◌, ◌==◌, ◌↔◌, ◌≤◌, ◌+◌, ◌<◌, ◌∷◌, ◌++◌, OnOk, if◌then◌else◌, length, filter, IfOk, IfSome, IsTrue, true, bytes_eq, Some, None};
+ghost use Rattle.std.specs.Prelude.{◌≡◌, ◌==◌, ◌↔◌, ◌≤◌, ◌+◌, ◌<◌, ◌∷◌, ◌++◌, OnOk, if◌then◌else◌, length, take, drop, filter, IfOk, IfSome, IsTrue, true, false, bytes_eq, Some, None};
 ghost use Rattle.std.specs.List.{position_or_len, list_any};
 ghost use Rattle.std.specs.Str.{str_to_ascii_lowercase};
 ghost use Rattle.std.specs.Option.{option_map};
-ghost use Rattle.targets.specs.Target.{query_text};
+ghost use Rattle.targets.specs.Target.{query_text, url_of};
 ghost use Rattle.std.specs.Cmp.{decided, partial_equiv_from_equiv};
 ghost use Rattle.std.specs.Hash.{same_Alike};
 ghost use Rattle.targets.specs.declared.byte.TheConstants.{AMPERSAND, EQUALS};
@@ -16,7 +16,7 @@ use std::alloc::{AllocError, Global};
 use std::hash::{Hash, Hasher};
 use std::marker::Model;
 use targets::byte::{AMPERSAND, EQUALS};
-use targets::{HostName, Target, url_of};
+use targets::{HostName, Target, add_url, url_room};
 
 /// Which part of a query plays no part in a key (RFC 8006, section 4.2.6, `ignore-query-string`).
 #[derive(Clone, Drop)]
@@ -29,7 +29,8 @@ pub enum Ignored {
     Names(TextList),
 }
 
-/// What a kept object is kept under: a target without what is ignored of its query. It is seen as its public parts.
+/// What a kept object is kept under: a target without what is ignored of its query. It is seen as its public parts. Host,
+/// path and query are shared with the target, but for a query that is kept in part; both URLs stand in one piece.
 #[derive(Clone, Drop)]
 pub struct Key {
     pub host: HostName,
@@ -37,12 +38,12 @@ pub struct Key {
     pub path: Text,
     pub query: Option<Text>,
     pub ignored: Ignored,
-    http: Text,
-    https: Text,
+    urls: Vec<u8>,
+    secure_from: usize,
 }
 
 impl Model for Key {
-    ghost use Rattle.std.specs.Prelude.{◌≡◌, true, false};
+    ghost use Rattle.std.specs.Prelude.{◌≡◌, ◌≤◌, true, false, length, take, drop};
     ghost use Rattle.cdni_base.specs.Key.{KeyParts};
     ghost use Rattle.targets.specs.Target.{url_of};
 
@@ -50,8 +51,9 @@ impl Model for Key {
 
     ghost view = { λ k. record { host = k.host; port = k.port; path = k.path; query = k.query; ignored = k.ignored } };
 
-    ghost invariant = { λ k. (k.http ≡ url_of false k.host k.port k.path k.query)
-        × (k.https ≡ url_of true k.host k.port k.path k.query) };
+    ghost invariant = { λ k. (k.secure_from ≤ length k.urls.items)
+        × (take k.secure_from k.urls.items ≡ url_of false k.host k.port k.path k.query)
+        × (drop k.secure_from k.urls.items ≡ url_of true k.host k.port k.path k.query) };
 }
 
 /// The key of a target: its host, port and path, and of its query what `ignored` leaves. Names leave out each piece
@@ -64,24 +66,38 @@ pub fn url_key(alloc: Global, target: &Target, ignored: &Ignored) -> Result<Key,
     ensures { IfOk result (λ key. key ≡ key_of target.now ignored.now) }
 {
     let query = kept_query(alloc, ignored, &target.query)?;
-    let http = url_of(
-        alloc,
-        false,
-        &target.host,
-        target.port,
-        &target.path,
-        &query,
-    )?;
-    let https = url_of(alloc, true, &target.host, target.port, &target.path, &query)?;
+    let (urls, secure_from) = both_urls(alloc, target, &query)?;
     Ok(Key {
         host: target.host.clone()?,
         port: target.port,
         path: target.path.clone()?,
         query,
         ignored: ignored.clone()?,
-        http,
-        https,
+        urls,
+        secure_from,
     })
+}
+
+// the URL of the target with this query with `http`, and behind it the same with `https`, which begins at the place that
+// is answered
+fn both_urls(
+    alloc: Global,
+    target: &Target,
+    query: &Option<Text>,
+) -> Result<(Vec<u8>, usize), AllocError>
+    ensures within { IfOk result (λ urls. urls.1 ≤ length urls.0.items) }
+    ensures http { IfOk result (λ urls. take urls.1 urls.0.items
+        ≡ url_of false target.now.host target.now.port target.now.path query.now) }
+    ensures https { IfOk result (λ urls. drop urls.1 urls.0.items
+        ≡ url_of true target.now.host target.now.port target.now.path query.now) }
+{
+    let port = target.port;
+    let room = url_room(&target.host, &target.path, query).saturating_mul(2);
+    let mut urls = Vec::with_capacity(alloc, room)?;
+    add_url(&mut urls, false, &target.host, port, &target.path, query)?;
+    let secure_from = urls.len();
+    add_url(&mut urls, true, &target.host, port, &target.path, query)?;
+    Ok((urls, secure_from))
 }
 
 impl Key {
@@ -102,9 +118,9 @@ impl Key {
         ensures { result.now ≡ key_text secure true self.now }
     {
         if secure {
-            self.https.bytes()
+            &self.urls[self.secure_from..]
         } else {
-            self.http.bytes()
+            &self.urls[..self.secure_from]
         }
     }
 
@@ -186,9 +202,9 @@ impl Hash for Key {
 
     ghost respects_eq = { (same_Alike fed_key key_decides).fed };
 
-    /// Feeds the key's URL.
+    /// Feeds the key's URL in one piece, which costs a hasher far less than byte by byte.
     fn hash<H: Hasher>(&self, state: &mut H) {
-        self.text(false, true).hash(state);
+        state.write(self.whole_text(false));
     }
 }
 

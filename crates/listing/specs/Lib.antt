@@ -3,3 +3,4 @@ pub mod Word
 pub mod FirstMatch
 pub mod Fronts
 pub mod ReservedList
+pub mod Text

@@ -7,6 +7,8 @@ pub mod laws;
 mod list;
 mod number;
 mod reserved_list;
+mod shared_bytes;
+mod short_bytes;
 #[cfg(test)]
 mod tests;
 mod text;
@@ -16,8 +18,9 @@ pub use first_match::{AccessList, AccessRule};
 pub use list::Listing;
 pub use number::{read_decimal, read_digits};
 pub use reserved_list::ReservedList;
+pub use shared_bytes::SharedBytes;
 pub use text::Text;
-pub use word::cut_at;
+pub use word::{cut_at, shared_parts};
 
 /// A list of texts.
 pub type TextList = Listing<Text>;

@@ -1,5 +1,5 @@
 // What no clause says: that the calls succeed, that texts can be looked up, and that rules of one's own can be decided.
-use crate::{AccessList, AccessRule, Listing, ReservedList, Text, laws};
+use crate::{AccessList, AccessRule, Listing, ReservedList, SharedBytes, Text, laws, shared_parts};
 use std::collections::HashSet;
 use std::test::Fail;
 
@@ -27,6 +27,37 @@ fn texts_are_looked_up(rt: HostRuntime) -> Result<(), Fail> {
     assert!(rt; texts.contains(&Text::of(rt.alloc(), b"mi.sourcemetadata")?));
     assert!(rt; !texts.contains(&Text::of(rt.alloc(), b"MI.SourceMetadata")?));
     assert!(rt; Some(Text::of(rt.alloc(), b"a")?) != None);
+    Ok(())
+}
+
+// texts of 0, 1, 16, 17 and 100 bytes are found however they hold their bytes, and so are their copies
+#[test]
+fn texts_are_one_however_they_hold_their_bytes(rt: HostRuntime) -> Result<(), Fail> {
+    let alloc = rt.alloc();
+    let bytes = [b'a'; 100];
+    let whole = SharedBytes::of(alloc, &bytes)?;
+    for length in [0, 1, 16, 17, 100] {
+        let mut texts = HashSet::new(alloc);
+        texts.insert(Text::of(alloc, &bytes[..length])?)?;
+        assert!(rt; texts.contains(&whole.front(length)?));
+        assert!(rt; texts.contains(&whole.rest(bytes.len() - length)?.clone()?));
+        assert!(rt; texts.contains(&Text::shared(alloc, &bytes[..length])?.clone()?));
+        assert!(rt; texts.contains(&Text::from_vec(bytes[..length].to_vec(alloc)?)));
+        assert!(rt; texts.contains(&Text::lowered(alloc, &[b'A'; 100][..length])?.clone()?));
+        assert!(rt; !texts.contains(&Text::of(alloc, b"aa")?));
+    }
+    Ok(())
+}
+
+#[test]
+fn parts_outlive_what_they_are_parts_of(rt: HostRuntime) -> Result<(), Fail> {
+    let (path, query) = shared_parts(rt.alloc(), b'?', b"/films?a=1?b=2")?;
+    let copy = path.clone()?;
+    drop(path);
+    assert!(rt; copy.is(b"/films"));
+    assert!(rt; query == Some(Text::of(rt.alloc(), b"a=1?b=2")?));
+    let (whole, none) = shared_parts(rt.alloc(), b'?', b"/films")?;
+    assert!(rt; whole == copy && none.is_none());
     Ok(())
 }
 

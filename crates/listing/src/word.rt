@@ -1,9 +1,12 @@
 //! Words of a line.
 
-ghost use Rattle.std.specs.Prelude.{◌≡◌, ◌==◌, ◌<◌, length, position, option_map, IfSome};
-ghost use Rattle.listing.specs.Word.{parts_at};
+ghost use Rattle.std.specs.Prelude.{◌≡◌, ◌==◌, ◌<◌, length, position, option_map, IfOk, IfSome};
+ghost use Rattle.listing.specs.Word.{parts_at, parts_or_whole};
 
+use crate::shared_bytes::SharedBytes;
+use crate::text::Text;
 use memchr::memchr;
+use std::alloc::{AllocError, Global};
 
 /// What stands before the first `byte` of `text` and what stands after it. `None` where there is none.
 #[tactic(auto, unfolding(crate::specs::Word::parts_at))]
@@ -13,6 +16,26 @@ pub fn cut_at(byte: u8, text: &[u8]) -> Option<(&[u8], &[u8])>
     match place_of(byte, text) {
         Some(place) => Some((&text[..place], &text[place + 1..])),
         None => None,
+    }
+}
+
+/// What stands before the first `byte` of `text` and what stands after it, as parts of one copy of the text; the whole alone
+/// where there is none.
+///
+/// # Errors
+/// Want of memory.
+#[tactic(auto, unfolding(crate::specs::Word::parts_at))]
+pub fn shared_parts(
+    alloc: Global,
+    byte: u8,
+    text: &[u8],
+) -> Result<(Text, Option<Text>), AllocError>
+    ensures { IfOk result (λ parts. parts ≡ parts_or_whole byte text.now) }
+{
+    let whole = SharedBytes::of(alloc, text)?;
+    match place_of(byte, text) {
+        Some(place) => Ok((whole.front(place)?, Some(whole.rest(place + 1)?))),
+        None => Ok((whole.front(text.len())?, None)),
     }
 }
 

@@ -13,4 +13,4 @@ mod url;
 pub use endpoint::{Endpoint, EndpointFault, EndpointList, PORT_DIGITS, PORT_MAX, name_length};
 pub use host_name::{HOST_NAME_MAX, HostName};
 pub use target::{HTTP_PORT, HTTPS_PORT, Protocol, TARGET_MAX, Target, TargetFault};
-pub use url::url_of;
+pub use url::{add_url, url_of, url_room};

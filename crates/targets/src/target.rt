@@ -13,7 +13,7 @@ use crate::byte_class::is_query_byte;
 use crate::endpoint::{EndpointParts, WrongPart, endpoint_parts};
 use crate::host_name::{HOST_NAME_MAX, HostName};
 use crate::url::url_of;
-use listing::{Text, cut_at};
+use listing::{Text, shared_parts};
 use std::alloc::{AllocError, Global};
 
 /// The delivery protocol of a request, as RFC 8006, section 7.3, names it.
@@ -25,7 +25,8 @@ pub enum Protocol {
     Https,
 }
 
-/// What a URL names: its host, its port (80 where it is absent), its path and its query, where it has one.
+/// What a URL names: its host, its port (80 where it is absent), its path and its query, where it has one. Path and query
+/// share the bytes that were read, and a copy of a target shares them too.
 #[derive(Clone, Drop)]
 pub struct Target {
     pub host: HostName,
@@ -230,10 +231,7 @@ fn target_at(
     ensures { IfOk result (λ target. target ≡ target_at (endpoint_with authority.now parts) secure text.now) }
 {
     let host = HostName::lowered(alloc, &authority[..parts.host_length])?;
-    let (path, query) = match cut_at(QUESTION, text) {
-        Some((path, query)) => (path, Some(Text::of(alloc, query)?)),
-        None => (text, None),
-    };
+    let (path, query) = shared_parts(alloc, QUESTION, text)?;
     Ok(Target {
         host,
         port: port_or_default(secure, parts.port),
@@ -243,13 +241,13 @@ fn target_at(
 }
 
 // `/` where the path is empty
-fn path_or_root(alloc: Global, path: &[u8]) -> Result<Text, AllocError>
-    ensures { IfOk result (λ text. text ≡ path_or_root path.now) }
+fn path_or_root(alloc: Global, path: Text) -> Result<Text, AllocError>
+    ensures { IfOk result (λ text. text ≡ path_or_root path) }
 {
-    if path.is_empty() {
+    if path.bytes().is_empty() {
         Text::of(alloc, b"/")
     } else {
-        Text::of(alloc, path)
+        Ok(path)
     }
 }
 

@@ -3,6 +3,7 @@
 ghost use Rattle.std.specs.Prelude.{◌≡◌, ◌++◌, IfOk, OnOk};
 ghost use Rattle.targets.specs.Target.{scheme_text, port_text, query_text, url_of};
 
+use crate::byte::QUESTION;
 use crate::host_name::HostName;
 use crate::target::HTTP_PORT;
 use itoa::Buffer;
@@ -24,17 +25,34 @@ pub fn url_of(
 ) -> Result<Text, AllocError>
     ensures { IfOk result (λ text. text ≡ url_of secure host.now port path.now query.now) }
 {
-    let mut url = Vec::with_capacity(alloc, most_bytes(host, path, query))?;
-    url.extend_from_slice(scheme_text(secure))?;
-    url.extend_from_slice(host.bytes())?;
-    add_port(&mut url, port)?;
-    url.extend_from_slice(path.bytes())?;
-    add_query(&mut url, query)?;
+    let mut url = Vec::with_capacity(alloc, url_room(host, path, query))?;
+    add_url(&mut url, secure, host, port, path, query)?;
     Ok(Text::from_vec(url))
 }
 
-// room for a URL of these parts
-fn most_bytes(host: &HostName, path: &Text, query: &Option<Text>) -> usize {
+/// Adds the URL of these parts.
+///
+/// # Errors
+/// Want of memory.
+pub fn add_url(
+    url: &mut Vec<u8>,
+    secure: bool,
+    host: &HostName,
+    port: u16,
+    path: &Text,
+    query: &Option<Text>,
+) -> Result<(), AllocError>
+    ensures { OnOk result (url.new.items ≡ url.old.items ++ url_of secure host.now port path.now query.now) }
+{
+    url.extend_from_slice(scheme_text(secure))?;
+    url.extend_from_slice(host.bytes())?;
+    add_port(url, port)?;
+    url.extend_from_slice(path.bytes())?;
+    add_query(url, query)
+}
+
+/// Room for a URL of these parts, in bytes: as many as it has or a few more.
+pub fn url_room(host: &HostName, path: &Text, query: &Option<Text>) -> usize {
     let query = match query {
         Some(query) => query.bytes().len(),
         None => 0,
@@ -68,7 +86,7 @@ fn add_query(url: &mut Vec<u8>, query: &Option<Text>) -> Result<(), AllocError>
 {
     match query {
         Some(query) => {
-            url.extend_from_slice(b"?")?;
+            url.push(QUESTION)?;
             url.extend_from_slice(query.bytes())
         }
         None => Ok(()),

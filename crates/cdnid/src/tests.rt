@@ -1,6 +1,7 @@
 //! What no clause says: worked scripts, the real streams, and that calls succeed where there is memory.
 
 use crate::scripts::{NODE_SCRIPTS, SCRIPTS};
+use crate::trigger_scripts::{LONG_TRIGGERED, TRIGGERED, TRIGGERS};
 use edge_base::{
     Clock, ListClock, MemorySink, MemorySource, Put, Sink, Source, Status, StdSink, StdSource,
     SteadySink, SteadySource, Took, WallClock, write_counted,
@@ -84,6 +85,38 @@ fn scripts_of_the_node_have_their_answers_in_any_cut(rt: HostRuntime) -> Result<
             assert_eq!(rt; written.as_slice(), answers.as_bytes(), "{name}");
         }
     }
+    Ok(())
+}
+
+// the first of these scripts that has other answers or another status
+fn first_other(
+    alloc: Global,
+    scripts: &[(&'static str, &'static str, &'static str, u8)],
+) -> Result<Option<&'static str>, Fail> {
+    for (name, script, answers, status) in scripts {
+        let (ended, written) = replayed(alloc, script, &[], &[])?;
+        if ended.number() != *status || written.as_slice() != answers.as_bytes() {
+            return Ok(Some(name));
+        }
+    }
+    Ok(None)
+}
+
+#[test]
+fn scripts_of_trigger_calls_have_their_answers(rt: HostRuntime) -> Result<(), Fail> {
+    assert_eq!(rt; first_other(rt.alloc(), &TRIGGERS)?, None);
+    Ok(())
+}
+
+#[test]
+fn scripts_of_what_triggers_do_have_their_answers(rt: HostRuntime) -> Result<(), Fail> {
+    assert_eq!(rt; first_other(rt.alloc(), &TRIGGERED)?, None);
+    Ok(())
+}
+
+#[test]
+fn long_scripts_of_triggers_have_their_answers(rt: HostRuntime) -> Result<(), Fail> {
+    assert_eq!(rt; first_other(rt.alloc(), &LONG_TRIGGERED)?, None);
     Ok(())
 }
 

@@ -1,17 +1,13 @@
 -- Lines of a script, and the answers from a line on.
-use Rattle.std.proofs.Common.{◌≡◌, ℕ, ◌+◌, ◌<◌, ◌≤◌, ◌==◌, Bool, true, false, cond, not, List, [], ◌∷◌, ◌++◌, length, filter, refl, sym, ◌∙◌, ap, subst, arith, inl, inr, None, Some, Ok, Err, nat_le, append_assoc}
+use Rattle.std.proofs.Common.{◌≡◌, ℕ, ◌+◌, ◌<◌, ◌≤◌, ◌==◌, Bool, true, false, cond, not, List, [], ◌∷◌, ◌++◌, length, filter, refl, sym, ◌∙◌, ap, subst, arith, None, Some, nat_le, append_assoc}
 use Rattle.std.specs.List.{list_all}
 use Rattle.std.specs.declared.option.Option.{Option}
 use Rattle.std.proofs.lemmas.Bool.{and_parts, and_left, and_right, cond-false, not-true, lt-leb, le-leb, leb-true, or_right}
 use Rattle.std.specs.Option.{option_and_then}
 use Rattle.cdni_base.specs.Limits.{Bounds}
-use Rattle.script_line.specs.Line.{Calls, Noted, Said, Scripted, Sets}
-use Rattle.script_line.specs.Grammar.{line_of, refreshed, Says, SaysCall}
-use Rattle.metadata_objects.specs.LevelData.{Index}
-use Rattle.metadata_objects.specs.Reading.{Reading}
-use Rattle.metadata_objects.specs.Host.{host_index_of_text}
-use Rattle.node_core.specs.Call.{is_command}
-use Rattle.cdni_base.specs.Key.{KeyParts}
+use Rattle.script_line.specs.Line.{Calls, Refuses, Said, Scripted, Sets}
+use Rattle.script_line.specs.Grammar.{line_of}
+use Rattle.trigger_command.specs.declared.fault.CommandFault.{CommandFault}
 use Rattle.node_core.specs.Node.{NodeView}
 use Rattle.replay_script.specs.Lines.{Line, lines_of, whole_lines, is_whole, on_first, NoFeed}
 use Rattle.script_line.specs.declared.answer.TheConstants.{LINE_FEED}
@@ -19,7 +15,7 @@ use Rattle.replay_script.specs.declared.step.TheConstants.{LINE_LIMIT}
 use Rattle.replay_script.specs.declared.step.TheConstants.{SCRIPT_LIMIT}
 use Rattle.replay_script.specs.declared.step.Stepped.{Stepped}
 use Rattle.replay_script.specs.declared.step.Stepped.TheVariants as stepped
-use Rattle.replay_script.specs.Script.{next_said, is_allowed, fits, Past, grown, answer_of, SetsLimits, Answers, StepsTo, Answered, with_text, answers_from}
+use Rattle.replay_script.specs.Script.{next_said, is_allowed, fits, Past, grown, answer_of, SetsLimits, Answers, AnswersRefusal, StepsTo, Answered, with_text, answers_from}
 
 -- ---- lines
 
@@ -111,35 +107,6 @@ next_said-here first at body in_limits = ap (λ t. cond t (option_and_then (is_a
 
 -- ---- one line
 
-no_command_read : (refresh moment : ℕ) (keys : List KeyParts) (index : Reading Index) → is_command (refreshed refresh moment keys index).event ≡ false
-no_command_read refresh moment keys (Ok index) = refl
-no_command_read refresh moment keys (Err fault) = refl
-
-same_kind : (said noted : Noted) → said ≡ noted → is_command noted.event ≡ false → is_command said.event ≡ false
-same_kind said noted is none = ap (λ n. is_command n.event) is ∙ none
-
-no_command_said : (moment : ℕ) (text : List ℕ) (said : Noted) → SaysCall moment text said → is_command said.event ≡ false
-no_command_said moment text said (inl (inl is)) = same_kind said _ is.1 refl
-no_command_said moment text said (inl (inr (inl is))) = same_kind said _ is.1 refl
-no_command_said moment text said (inl (inr (inr is))) = same_kind said _ is.1 refl
-no_command_said moment text said (inr (inl is)) = same_kind said _ is.call refl
-no_command_said moment text said (inr (inr (inl is))) = same_kind said _ is.call refl
-no_command_said moment text said (inr (inr (inr (inl is)))) = same_kind said _ is.call (no_command_read is.refresh moment is.keys (host_index_of_text is.json))
-no_command_said moment text said (inr (inr (inr (inr (inl is))))) = same_kind said _ is.call refl
-no_command_said moment text said (inr (inr (inr (inr (inr (inl is)))))) = same_kind said _ is.call refl
-no_command_said moment text said (inr (inr (inr (inr (inr (inr (inl is))))))) = same_kind said _ is.call refl
-no_command_said moment text said (inr (inr (inr (inr (inr (inr (inr (inl is)))))))) = same_kind said _ is.call refl
-no_command_said moment text said (inr (inr (inr (inr (inr (inr (inr (inr (inl is))))))))) = same_kind said _ is.call refl
-no_command_said moment text said (inr (inr (inr (inr (inr (inr (inr (inr (inr (inl is)))))))))) = same_kind said _ is.call refl
-no_command_said moment text said (inr (inr (inr (inr (inr (inr (inr (inr (inr (inr (inl is))))))))))) = same_kind said _ is.call refl
-no_command_said moment text said (inr (inr (inr (inr (inr (inr (inr (inr (inr (inr (inr (inl is)))))))))))) = same_kind said _ is.call refl
-no_command_said moment text said (inr (inr (inr (inr (inr (inr (inr (inr (inr (inr (inr (inr (inl is))))))))))))) = same_kind said _ is.call refl
-no_command_said moment text said (inr (inr (inr (inr (inr (inr (inr (inr (inr (inr (inr (inr (inr is))))))))))))) = same_kind said _ is.call refl
-
--- no line says a command yet
-pub no_command : (line : List ℕ) (scripted : Scripted) → Says line (Calls scripted) → is_command scripted.1.event ≡ false
-no_command line scripted is = no_command_said is.at is.call scripted.1 is.called
-
 module _ (old new : NodeView) (first : Bool) (at : ℕ) (body : List ℕ) (in_limits : true ≡ fits at (length body + 1)) where
   sets_steps_by : (limits : Bounds) (r : Stepped) → line_of body ≡ Some (Sets limits) → SetsLimits new first limits r → StepsTo old new first at body [] r
   sets_steps_by limits stepped.Answered reads s =
@@ -162,6 +129,16 @@ module _ (old new : NodeView) (first : Bool) (at : ℕ) (body : List ℕ) (in_li
 
   pub unread_steps : (answer : List ℕ) → line_of body ≡ None → StepsTo old new first at body answer stepped.NotALine
   unread_steps answer reads = next_said-here first at body in_limits ∙ ap (option_and_then (is_allowed first)) reads
+
+module _ (node : NodeView) (first : Bool) (at : ℕ) (body : List ℕ) (in_limits : true ≡ fits at (length body + 1)) where
+  refused_steps_by : (fault : CommandFault) (answer : List ℕ) (r : Stepped) → line_of body ≡ Some (Refuses fault) → AnswersRefusal fault [] answer r → StepsTo node node first at body answer r
+  refused_steps_by fault answer stepped.Answered reads s =
+      (Refuses fault, next_said-here first at body in_limits ∙ ap (option_and_then (is_allowed first)) reads, λ past stands. (stands, s))
+  refused_steps_by fault answer stepped.NotALine reads s = absurd s
+  refused_steps_by fault answer stepped.Memory reads s = sym in_limits
+
+  pub refused_steps : (fault : CommandFault) (before answer : List ℕ) (r : Stepped) → before ≡ [] → line_of body ≡ Some (Refuses fault) → AnswersRefusal fault before answer r → StepsTo node node first at body answer r
+  refused_steps fault before answer r empty reads s = refused_steps_by fault answer r reads (subst (λ text. AnswersRefusal fault text answer r) empty s)
 
 -- ---- answers
 

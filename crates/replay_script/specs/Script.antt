@@ -3,11 +3,12 @@ use Rattle.std.specs.Prelude.{◌≡◌, ℕ, ◌+◌, Bool, true, IsTrue, List,
 use Rattle.std.specs.Option.{option_and_then, option_map_or}
 use Rattle.std.specs.declared.option.Option.{Option}
 use Rattle.cdni_base.specs.Limits.{Bounds, default_limits}
-use Rattle.script_line.specs.Answer.{answer_line}
+use Rattle.script_line.specs.Answer.{answer_line, refused_line}
 use Rattle.history.specs.Event.{History}
 use Rattle.history.specs.History.{reply_to}
 use Rattle.history.specs.World.{Made}
-use Rattle.script_line.specs.Line.{Said, Scripted, Sets, Calls, entry_of}
+use Rattle.trigger_command.specs.declared.fault.CommandFault.{CommandFault}
+use Rattle.script_line.specs.Line.{Said, Scripted, Sets, Calls, Refuses, entry_of}
 use Rattle.node_core.specs.Node.{NodeView, Stands}
 use Rattle.script_line.specs.Grammar.{line_of}
 use Rattle.replay_script.specs.Lines.{Line, lines_of, whole_lines}
@@ -24,6 +25,7 @@ fits at len = nat_le len LINE_LIMIT && nat_le (at + len) SCRIPT_LIMIT
 -- the first line of a script may set the limits
 abbrev pub is_allowed : Bool → Said → Option Said
 is_allowed first (Calls scripted) = Some (Calls scripted)
+is_allowed first (Refuses fault) = Some (Refuses fault)
 is_allowed true (Sets limits) = Some (Sets limits)
 is_allowed false (Sets limits) = None
 
@@ -41,15 +43,17 @@ pub record Past : Type 0 where
 abbrev pub made_with : Bounds → Past
 made_with limits = record { made = record { limits = limits; origin = codes "dcdn.example" }; entries = [] }
 
--- the next line begins anew under its limits, or is one entry more
+-- the next line begins anew under its limits, or is one entry more; a command that is refused is no entry
 abbrev pub grown : Past → Said → Past
 grown past (Sets limits) = made_with limits
 grown past (Calls scripted) = record past { entries = past.entries ++ entry_of scripted ∷ [] }
+grown past (Refuses fault) = past
 
 -- its answer
 abbrev pub answer_of : Past → Said → List ℕ
 answer_of past (Sets limits) = []
 answer_of past (Calls scripted) = answer_line (reply_to past.made past.entries (entry_of scripted)) scripted.1.note
+answer_of past (Refuses fault) = refused_line fault
 
 -- the answers of a script: their text, and the number and place of the first line that is none, counted from 1 and 0
 pub record Answered : Type 0 where
@@ -94,6 +98,12 @@ Answers old new scripted before now stepped.Answered = (past : Past) → Stands 
     × (now ≡ before ++ answer_of past (Calls scripted))
 Answers old new scripted before now stepped.NotALine = ⊥
 Answers old new scripted before now stepped.Memory = Unit {0}
+
+-- the command is refused, and the answer is added
+abbrev pub AnswersRefusal : CommandFault → List ℕ → List ℕ → Stepped → Type 0
+AnswersRefusal fault before now stepped.Answered = now ≡ before ++ refused_line fault
+AnswersRefusal fault before now stepped.NotALine = ⊥
+AnswersRefusal fault before now stepped.Memory = Unit {0}
 
 -- the node stands for what the lines made with this one, and this is its answer
 abbrev pub TakesIn : NodeView → Past → Said → List ℕ → Type 0

@@ -1,17 +1,17 @@
 //! One line of a script.
 
-ghost use Rattle.std.specs.Prelude.{◌≡◌, ◌+◌, false, [], IfOk, option_map};
+ghost use Rattle.std.specs.Prelude.{◌≡◌, ◌≢◌, ◌+◌, [], IfOk, option_map};
 ghost use Rattle.history.specs.Event.{event_of};
-ghost use Rattle.node_core.specs.Call.{is_command};
 ghost use Rattle.node_core.specs.Node.{Stands};
-ghost use Rattle.replay_script.specs.Script.{fits, made_with, Answers, SetsLimits, StepsTo};
+ghost use Rattle.replay_script.specs.Script.{fits, made_with, Answers, AnswersRefusal, SetsLimits, StepsTo};
 
 use cdni_base::{Limits, Text};
 use history::Call;
 use metadata_objects::MetaFault;
 use node_core::Node;
-use script_line::{ScriptFault, ScriptLine, put_reply_line, read_line};
+use script_line::{ScriptFault, ScriptLine, put_refusal, put_reply_line, read_line};
 use std::alloc::{AllocError, Global};
+use trigger_command::CommandFault;
 
 /// A line of more bytes, its line feed counted, is no script line.
 pub const LINE_LIMIT: usize = 40_000_000;
@@ -34,7 +34,8 @@ pub enum Stepped {
 }
 
 /// Answers the line that begins at this byte of the script, counted from 0, and is its first one or not. The answer takes
-/// the place of what was there. A line `limits` of the first line begins anew with a node of these limits.
+/// the place of what was there. A line `limits` of the first line begins anew with a node of these limits. A trigger command
+/// that is refused leaves the node as it was.
 #[tactic(auto, unfolding(crate::specs::Script::next_said))]
 pub fn answer_one(
     alloc: Global,
@@ -54,13 +55,21 @@ pub fn answer_one(
         Err(ScriptFault::NotALine) => return Stepped::NotALine,
         Err(ScriptFault::Memory) => return Stepped::Memory,
     };
-    answer.clear();
+    empty(answer);
     match line {
         ScriptLine::Limits(limits) => set_limits(alloc, node, first, limits),
         ScriptLine::Call { pass, call, note } => {
             answer_call(alloc, node, pass, call, note.as_ref(), answer)
         }
+        ScriptLine::Refused(fault) => refuse(alloc, &fault, answer),
     }
+}
+
+// leaves out what was there
+fn empty(answer: &mut Vec<u8>)
+    ensures { answer.new.items ≡ [] }
+{
+    answer.clear();
 }
 
 /// The node that answers a script under these limits, before its first call. Its log files claim the host
@@ -99,7 +108,6 @@ fn answer_call(
     note: Option<&MetaFault>,
     answer: &mut Vec<u8>,
 ) -> Stepped
-    requires { is_command (event_of call) ≡ false }
     ensures { Answers node.old node.new (
       pass,
       record {
@@ -112,6 +120,17 @@ fn answer_call(
         return Stepped::Memory;
     };
     match put_reply_line(alloc, answer, &reply, note) {
+        Ok(()) => Stepped::Answered,
+        Err(_) => Stepped::Memory,
+    }
+}
+
+// adds the line by which a command of this fault is refused
+fn refuse(alloc: Global, fault: &CommandFault, answer: &mut Vec<u8>) -> Stepped
+    requires { fault.now ≢ CommandFault.Memory }
+    ensures { AnswersRefusal fault.now answer.old.items answer.new.items result }
+{
+    match put_refusal(alloc, answer, fault) {
         Ok(()) => Stepped::Answered,
         Err(_) => Stepped::Memory,
     }

@@ -35,11 +35,14 @@ use Rattle.history.specs.Event.{Event, Admit, FetchEnd, Finish, ListLogs, Cancel
 use Rattle.upstream_gate.specs.Got.{GotParts, IsGot, is_got_status}
 use Rattle.upstream_gate.specs.declared.got.TheConstants.{BODY_MAX}
 use Rattle.upstream_gate.specs.declared.outcome.Outcome.TheVariants as outcome
-use Rattle.script_line.specs.Line.{Noted, Said, Sets, Calls, said_of, on_pass, Gives, Reads, TellsNoMemory}
+use Rattle.script_line.specs.Line.{Noted, Said, Sets, Calls, Refuses, said_of, on_pass, Gives, Reads, TellsNoMemory}
 use Rattle.script_line.specs.declared.line.ScriptFault.{ScriptFault}
 use Rattle.script_line.specs.declared.line.ScriptFault.TheVariants as script_fault
 use Rattle.script_line.specs.declared.line.ScriptLine.{ScriptLine}
-use Rattle.script_line.specs.Grammar.{number_below, number_between, bounds_of, limits_of, url_target, key_of_url, each_of, keys_of, is_method, protocol_of, place_at, asked_of, get_of, refreshed, meta_of, plain, is_kind, kind_of, body_of, content_of, got_of, finish_of, one_of, cancel_of, list_of, filter_of, filter_word, of_triggers, of_numbers, bare_of, plainly_or, worded, call_of, scripted_of, line_of, NoSpace, IsNumber, IsProtocol, IsPlace, IsAsked, AreKeys, IsKind, IsBody, SaysMeta, SaysGet, SaysGot, SaysOne, SaysFinish, SaysCancel, SaysList, AreNumbers, SaysOfTriggers, SaysOfNumbers, SaysBare, SaysCall, SaysScripted, SaysLimits, Says}
+use Rattle.script_line.specs.Grammar.{number_below, number_between, bounds_of, limits_of, url_target, key_of_url, each_of, keys_of, is_method, protocol_of, place_at, asked_of, get_of, refreshed, meta_of, plain, is_kind, kind_of, body_of, content_of, got_of, finish_of, one_of, cancel_of, list_of, filter_of, filter_word, of_triggers, of_numbers, bare_of, commanded, plainly_or, worded, call_of, scripted_of, line_of, NoSpace, IsNumber, IsProtocol, IsPlace, IsAsked, AreKeys, IsKind, IsBody, SaysMeta, SaysGet, SaysGot, SaysOne, SaysFinish, SaysCancel, SaysList, AreNumbers, IsWords, SaysOfTriggers, SaysOfNumbers, SaysBare, SaysCall, SaysRefusal, SaysLimits, Says}
+use Rattle.script_line.specs.Own.{own_id, control_host}
+use Rattle.trigger_command.specs.Reading.{Judged, command_of}
+use Rattle.trigger_command.specs.declared.command.Command.{Command}
 use Rattle.script_line.specs.declared.grammar.TheConstants.{SPACE, BAR, COMMA}
 use Rattle.trigger_status.specs.declared.job.Filter.{Filter}
 use Rattle.trigger_status.specs.declared.job.Filter.TheVariants as filter
@@ -730,51 +733,85 @@ bare_says moment text event is = elim (cases_Bool (bytes_eq text (codes "refresh
   ])
 ]
 
-worded_says : (moment : ℕ) (text word behind : List ℕ) (said : Noted) → parts_at SPACE text ≡ Some (word, behind) → worded moment (word, behind) ≡ Some said
-    → SaysGet moment text said ⊎ (SaysGot moment text said ⊎ (SaysMeta moment text said ⊎ SaysOfNumbers moment text said))
-worded_says moment text word behind said cut is = elim (one_or (bytes_eq word (codes "get")) _ _ said is) [
-  | inl get ↦ inl (get_says moment text word behind said cut get.0 get.1)
-  | inr no_get ↦ inr (elim (one_or (bytes_eq word (codes "got")) _ _ said no_get) [
-    | inl got ↦ inl (got_says moment text word behind said cut got.0 got.1)
-    | inr no_got ↦ inr (elim (one_or (bytes_eq word (codes "meta")) _ _ said no_got) [
-      | inl meta ↦ inl (meta_says moment text word behind said cut meta.0 meta.1)
-      | inr no_meta ↦ inr (numbers_say moment text word behind said cut no_meta)
-    ])
-  ])
+-- what a line says behind its pass and moment
+abbrev pub Spoken : ℕ → ℕ → List ℕ → Said → Type 0
+Spoken pass moment text (Sets limits) = ⊥
+Spoken pass moment text (Calls scripted) = (scripted.0 ≡ pass) × SaysCall moment text scripted.1
+Spoken pass moment text (Refuses fault) = SaysRefusal text fault
+
+command_says : (pass moment : ℕ) (text word behind : List ℕ) (read : Judged Command) → parts_at SPACE text ≡ Some (word, behind) → bytes_eq word (codes "command") ≡ true → command_of own_id control_host behind ≡ read → Spoken pass moment text (commanded pass moment read)
+command_says pass moment text word behind (Ok command) cut same is =
+    let first = first_is text word behind (codes "command") cut same in
+    (refl, inr (inr (inr (inr (inl (record { json = behind; command = command; words = (behind, first.0, first.1, refl); reads = is; call = refl }))))))
+command_says pass moment text word behind (Err fault) cut same is =
+    let first = first_is text word behind (codes "command") cut same in
+    record { json = behind; words = (behind, first.0, first.1, refl); fails = is }
+
+-- what is noted of a call of the pass is what is said
+noted_says : (pass moment : ℕ) (text : List ℕ) (found : Option Noted) (said : Said) → option_map (on_pass pass) found ≡ Some said → ((noted : Noted) → found ≡ Some noted → SaysCall moment text noted) → Spoken pass moment text said
+noted_says pass moment text found said is says =
+    let noted = found_map (on_pass pass) found said is in
+    subst (Spoken pass moment text) noted.2 (refl, says noted.0 noted.1)
+
+worded_says : (pass moment : ℕ) (text word behind : List ℕ) (said : Said) → parts_at SPACE text ≡ Some (word, behind) → worded pass moment (word, behind) ≡ Some said → Spoken pass moment text said
+unfolding worded
+worded_says pass moment text word behind said cut is = elim (one_or (bytes_eq word (codes "get")) _ _ said is) [
+  | inl get ↦ noted_says pass moment text _ said get.1 (λ noted found. inr (inl (get_says moment text word behind noted cut get.0 found)))
+  | inr no_get ↦ elim (one_or (bytes_eq word (codes "got")) _ _ said no_get) [
+    | inl got ↦ noted_says pass moment text _ said got.1 (λ noted found. inr (inr (inl (got_says moment text word behind noted cut got.0 found))))
+    | inr no_got ↦ elim (one_or (bytes_eq word (codes "meta")) _ _ said no_got) [
+      | inl meta ↦ noted_says pass moment text _ said meta.1 (λ noted found. inr (inr (inr (inl (meta_says moment text word behind noted cut meta.0 found)))))
+      | inr no_meta ↦ elim (one_or (bytes_eq word (codes "command")) _ _ said no_meta) [
+        | inl command ↦ subst (Spoken pass moment text) (same_some command.1) (command_says pass moment text word behind (command_of own_id control_host behind) cut command.0 refl)
+        | inr no_command ↦ noted_says pass moment text _ said no_command (λ noted found. inr (inr (inr (inr (inr (numbers_say moment text word behind noted cut found))))))
+      ]
+    ]
+  ]
 ]
 
-call_says_by : (moment : ℕ) (text : List ℕ) (said : Noted) (found : Option Event) → bare_of moment text ≡ found → plainly_or found (parts_at SPACE text >>= worded moment) ≡ Some said → SaysCall moment text said
-call_says_by moment text said (Some event) is same = inl (subst (SaysBare moment text) (same_some same) (bare_says moment text event is))
-call_says_by moment text said None is same =
-    let word = found_first (parts_at SPACE text) (worded moment) said same in
-    inr (worded_says moment text word.0.0 word.0.1 said word.1 word.2)
+call_says_by : (pass moment : ℕ) (text : List ℕ) (said : Said) (found : Option Event) → bare_of moment text ≡ found → plainly_or pass found (parts_at SPACE text >>= worded pass moment) ≡ Some said → Spoken pass moment text said
+call_says_by pass moment text said (Some event) is same = subst (Spoken pass moment text) (same_some same) (refl, inl (bare_says moment text event is))
+call_says_by pass moment text said None is same =
+    let word = found_first (parts_at SPACE text) (worded pass moment) said same in
+    worded_says pass moment text word.0.0 word.0.1 said word.1 word.2
 
-call_says : (moment : ℕ) (text : List ℕ) (said : Noted) → call_of moment text ≡ Some said → SaysCall moment text said
+call_says : (pass moment : ℕ) (text : List ℕ) (said : Said) → call_of pass moment text ≡ Some said → Spoken pass moment text said
 unfolding call_of
-call_says moment text said is = call_says_by moment text said (bare_of moment text) refl is
+call_says pass moment text said is = call_says_by pass moment text said (bare_of moment text) refl is
 
-says_word_call : (moment : ℕ) (text word behind : List ℕ) (said : Noted) → NoSpace word → call_of moment (word ++ SPACE ∷ behind) ≡ (parts_at SPACE (word ++ SPACE ∷ behind) >>= worded moment) → text ≡ word ++ SPACE ∷ behind → worded moment (word, behind) ≡ Some said → call_of moment text ≡ Some said
-says_word_call moment text word behind said none is same worded_is =
-    ap (call_of moment) same ∙ is ∙ found_then (parts_at SPACE (word ++ SPACE ∷ behind)) (worded moment) (word, behind) _ (begins_cut SPACE word behind none) worded_is
+says_word_call : (pass moment : ℕ) (text word behind : List ℕ) (said : Said) → NoSpace word → call_of pass moment (word ++ SPACE ∷ behind) ≡ (parts_at SPACE (word ++ SPACE ∷ behind) >>= worded pass moment) → text ≡ word ++ SPACE ∷ behind → worded pass moment (word, behind) ≡ Some said → call_of pass moment text ≡ Some said
+says_word_call pass moment text word behind said none is same worded_is =
+    ap (call_of pass moment) same ∙ is ∙ found_then (parts_at SPACE (word ++ SPACE ∷ behind)) (worded pass moment) (word, behind) _ (begins_cut SPACE word behind none) worded_is
 
-says_call : (moment : ℕ) (text : List ℕ) (said : Noted) → SaysCall moment text said → call_of moment text ≡ Some said
-unfolding call_of bare_of of_numbers of_triggers
-says_call moment text said (inl (inl is)) = ap (call_of moment) is.0 ∙ ap Some (sym is.1)
-says_call moment text said (inl (inr (inl is))) = ap (call_of moment) is.0 ∙ ap Some (sym is.1)
-says_call moment text said (inl (inr (inr is))) = ap (call_of moment) is.0 ∙ ap Some (sym is.1)
-says_call moment text said (inr (inl is)) = let m = says_get moment text said is in says_word_call moment text (codes "get") m.0 said refl refl m.1 m.2
-says_call moment text said (inr (inr (inl is))) = let m = says_got moment text said is in says_word_call moment text (codes "got") m.0 said refl refl m.1 m.2
-says_call moment text said (inr (inr (inr (inl is)))) = let m = says_meta moment text said is in says_word_call moment text (codes "meta") m.0 said refl refl m.1 m.2
-says_call moment text said (inr (inr (inr (inr (inl is))))) = let m = says_finish moment text said is in says_word_call moment text (codes "finish") m.0 said refl refl m.1 m.2
-says_call moment text said (inr (inr (inr (inr (inr (inl is)))))) = let m = says_one (codes "lost") _ text said is in says_word_call moment text (codes "lost") m.0 said refl refl m.1 m.2
-says_call moment text said (inr (inr (inr (inr (inr (inr (inl is))))))) = let m = says_one (codes "metafail") _ text said is in says_word_call moment text (codes "metafail") m.0 said refl refl m.1 m.2
-says_call moment text said (inr (inr (inr (inr (inr (inr (inr (inl is)))))))) = let m = says_one (codes "log") _ text said is in says_word_call moment text (codes "log") m.0 said refl refl m.1 m.2
-says_call moment text said (inr (inr (inr (inr (inr (inr (inr (inr (inl is))))))))) = let m = says_one (codes "droplog") _ text said is in says_word_call moment text (codes "droplog") m.0 said refl refl m.1 m.2
-says_call moment text said (inr (inr (inr (inr (inr (inr (inr (inr (inr (inl is)))))))))) = let m = says_one (codes "advance") _ text said is in says_word_call moment text (codes "advance") m.0 said refl refl m.1 m.2
-says_call moment text said (inr (inr (inr (inr (inr (inr (inr (inr (inr (inr (inl is))))))))))) = let m = says_cancel moment text said is in says_word_call moment text (codes "cancel") m.0 said refl refl m.1 m.2
-says_call moment text said (inr (inr (inr (inr (inr (inr (inr (inr (inr (inr (inr (inl is)))))))))))) = let m = says_one (codes "delete") _ text said is in says_word_call moment text (codes "delete") m.0 said refl refl m.1 m.2
-says_call moment text said (inr (inr (inr (inr (inr (inr (inr (inr (inr (inr (inr (inr (inl is))))))))))))) = let m = says_one (codes "status") _ text said is in says_word_call moment text (codes "status") m.0 said refl refl m.1 m.2
-says_call moment text said (inr (inr (inr (inr (inr (inr (inr (inr (inr (inr (inr (inr (inr is))))))))))))) = let m = says_list text said is in says_word_call moment text (codes "list") m.0 said refl refl m.1 m.2
+says_command : (pass moment : ℕ) (text json : List ℕ) (read : Judged Command) → IsWords (codes "command" ∷ []) json text → command_of own_id control_host json ≡ read → call_of pass moment text ≡ Some (commanded pass moment read)
+unfolding call_of bare_of worded
+says_command pass moment text json read words is =
+    says_word_call pass moment text (codes "command") words.0 (commanded pass moment read) refl refl words.1 (ap (λ t. Some (commanded pass moment (command_of own_id control_host t))) words.3 ∙ ap (λ r. Some (commanded pass moment r)) is)
+
+says_call : (pass moment : ℕ) (text : List ℕ) (said : Noted) → SaysCall moment text said → call_of pass moment text ≡ Some (on_pass pass said)
+unfolding call_of bare_of worded of_numbers of_triggers
+says_call pass moment text said (inl (inl is)) = ap (call_of pass moment) is.0 ∙ ap (λ s. Some (on_pass pass s)) (sym is.1)
+says_call pass moment text said (inl (inr (inl is))) = ap (call_of pass moment) is.0 ∙ ap (λ s. Some (on_pass pass s)) (sym is.1)
+says_call pass moment text said (inl (inr (inr is))) = ap (call_of pass moment) is.0 ∙ ap (λ s. Some (on_pass pass s)) (sym is.1)
+says_call pass moment text said (inr (inl is)) = let m = says_get moment text said is in says_word_call pass moment text (codes "get") m.0 (on_pass pass said) refl refl m.1 (ap (option_map (on_pass pass)) m.2)
+says_call pass moment text said (inr (inr (inl is))) = let m = says_got moment text said is in says_word_call pass moment text (codes "got") m.0 (on_pass pass said) refl refl m.1 (ap (option_map (on_pass pass)) m.2)
+says_call pass moment text said (inr (inr (inr (inl is)))) = let m = says_meta moment text said is in says_word_call pass moment text (codes "meta") m.0 (on_pass pass said) refl refl m.1 (ap (option_map (on_pass pass)) m.2)
+says_call pass moment text said (inr (inr (inr (inr (inl is))))) = says_command pass moment text is.json (Ok is.command) is.words is.reads ∙ ap (λ s. Some (on_pass pass s)) (sym is.call)
+says_call pass moment text said (inr (inr (inr (inr (inr (inl is)))))) = let m = says_finish moment text said is in says_word_call pass moment text (codes "finish") m.0 (on_pass pass said) refl refl m.1 (ap (option_map (on_pass pass)) m.2)
+says_call pass moment text said (inr (inr (inr (inr (inr (inr (inl is))))))) = let m = says_one (codes "lost") _ text said is in says_word_call pass moment text (codes "lost") m.0 (on_pass pass said) refl refl m.1 (ap (option_map (on_pass pass)) m.2)
+says_call pass moment text said (inr (inr (inr (inr (inr (inr (inr (inl is)))))))) = let m = says_one (codes "metafail") _ text said is in says_word_call pass moment text (codes "metafail") m.0 (on_pass pass said) refl refl m.1 (ap (option_map (on_pass pass)) m.2)
+says_call pass moment text said (inr (inr (inr (inr (inr (inr (inr (inr (inl is))))))))) = let m = says_one (codes "log") _ text said is in says_word_call pass moment text (codes "log") m.0 (on_pass pass said) refl refl m.1 (ap (option_map (on_pass pass)) m.2)
+says_call pass moment text said (inr (inr (inr (inr (inr (inr (inr (inr (inr (inl is)))))))))) = let m = says_one (codes "droplog") _ text said is in says_word_call pass moment text (codes "droplog") m.0 (on_pass pass said) refl refl m.1 (ap (option_map (on_pass pass)) m.2)
+says_call pass moment text said (inr (inr (inr (inr (inr (inr (inr (inr (inr (inr (inl is))))))))))) = let m = says_one (codes "advance") _ text said is in says_word_call pass moment text (codes "advance") m.0 (on_pass pass said) refl refl m.1 (ap (option_map (on_pass pass)) m.2)
+says_call pass moment text said (inr (inr (inr (inr (inr (inr (inr (inr (inr (inr (inr (inl is)))))))))))) = let m = says_cancel moment text said is in says_word_call pass moment text (codes "cancel") m.0 (on_pass pass said) refl refl m.1 (ap (option_map (on_pass pass)) m.2)
+says_call pass moment text said (inr (inr (inr (inr (inr (inr (inr (inr (inr (inr (inr (inr (inl is))))))))))))) = let m = says_one (codes "delete") _ text said is in says_word_call pass moment text (codes "delete") m.0 (on_pass pass said) refl refl m.1 (ap (option_map (on_pass pass)) m.2)
+says_call pass moment text said (inr (inr (inr (inr (inr (inr (inr (inr (inr (inr (inr (inr (inr (inl is)))))))))))))) = let m = says_one (codes "status") _ text said is in says_word_call pass moment text (codes "status") m.0 (on_pass pass said) refl refl m.1 (ap (option_map (on_pass pass)) m.2)
+says_call pass moment text said (inr (inr (inr (inr (inr (inr (inr (inr (inr (inr (inr (inr (inr (inr is)))))))))))))) = let m = says_list text said is in says_word_call pass moment text (codes "list") m.0 (on_pass pass said) refl refl m.1 (ap (option_map (on_pass pass)) m.2)
+
+says_spoken : (pass moment : ℕ) (text : List ℕ) (said : Said) → Spoken pass moment text said → call_of pass moment text ≡ Some said
+says_spoken pass moment text (Sets limits) is = absurd is
+says_spoken pass moment text (Calls said) is = says_call pass moment text said.1 is.1 ∙ ap (λ p. Some (Calls (p, said.1))) (sym is.0)
+says_spoken pass moment text (Refuses fault) is = says_command pass moment text is.json (Err fault) is.words is.fails
 
 -- ---- the limits
 
@@ -881,28 +918,42 @@ say_limits line limits is =
 
 -- ---- a whole line
 
+scripted_spoken : (line pass rest moment text : List ℕ) (number at : ℕ) (said : Said) → line ≡ pass ++ SPACE ∷ rest → NoSpace pass → rest ≡ moment ++ SPACE ∷ text → NoSpace moment → IsNumber pass number → number < 2 ^ 32 → IsNumber moment at → Spoken number at text said → Says line said
+scripted_spoken line pass rest moment text number at (Sets limits) p1 p2 m1 m2 numbered small timed is = absurd is
+scripted_spoken line pass rest moment text number at (Calls said) p1 p2 m1 m2 numbered small timed is = record {
+  pass = pass;
+  moment = moment;
+  call = text;
+  at = at;
+  words = (rest, p1, p2, (text, m1, m2, refl));
+  numbered = subst (IsNumber pass) (sym is.0) numbered;
+  small = subst (λ n. n < 2 ^ 32) (sym is.0) small;
+  timed = timed;
+  called = is.1;
+}
+scripted_spoken line pass rest moment text number at (Refuses fault) p1 p2 m1 m2 numbered small timed is = record {
+  pass = pass;
+  moment = moment;
+  command = text;
+  number = number;
+  at = at;
+  words = (rest, p1, p2, (text, m1, m2, refl));
+  numbered = numbered;
+  small = small;
+  timed = timed;
+  refused = is;
+}
+
 scripted_says : (line : List ℕ) (parts : List ℕ × List ℕ) (said : Said) → parts_at SPACE line ≡ Some parts → scripted_of parts ≡ Some said → Says line said
 unfolding scripted_of
 scripted_says line parts said cut is =
     let number = found_first (number_below (2 ^ 32) parts.0) _ said is in
     let moment = found_first (parts_at SPACE parts.1) _ said number.2 in
     let at = found_first (number_of moment.0.0) _ said moment.2 in
-    let call = found_map (on_pass number.0) (call_of at.0 moment.0.1) said at.2 in
     let p = word_says line parts.0 parts.1 cut in
     let m = word_says parts.1 moment.0.0 moment.0.1 moment.1 in
     let n = below_says (2 ^ 32) parts.0 number.0 number.1 in
-    let calls : SaysScripted line (number.0, call.0) = record {
-      pass = parts.0;
-      moment = moment.0.0;
-      call = moment.0.1;
-      at = at.0;
-      words = (parts.1, p.0, p.1, (moment.0.1, m.0, m.1, refl));
-      numbered = n.0;
-      small = n.1;
-      timed = number_says moment.0.0 at.0 at.1;
-      called = call_says at.0 moment.0.1 call.0 call.1;
-    } in
-    subst (Says line) call.2 calls
+    scripted_spoken line parts.0 parts.1 moment.0.0 moment.0.1 number.0 at.0 said p.0 p.1 m.0 m.1 n.0 n.1 (number_says moment.0.0 at.0 at.1) (call_says number.0 at.0 moment.0.1 said at.2)
 
 pub line_says : (line : List ℕ) (said : Said) → line_of line ≡ Some said → Says line said
 unfolding line_of
@@ -922,20 +973,25 @@ no_limits text n is = elim (cases_Bool (bytes_eq text (codes "limits"))) [
   | inr other ↦ other
 ]
 
-pub says_line : (line : List ℕ) (said : Said) → Says line said → line_of line ≡ Some said
+-- PASS MOMENT and what the pass says
+spoken_line : (line pass moment text : List ℕ) (number at : ℕ) (said : Said) → IsWords (pass ∷ moment ∷ []) text line → IsNumber pass number → number < 2 ^ 32 → IsNumber moment at → Spoken number at text said → line_of line ≡ Some said
 unfolding line_of scripted_of
+spoken_line line pass moment text number at said p numbered small timed is =
+    let m = p.3 in
+    found_then (parts_at SPACE line) _ (pass, p.0) _ (says_word line pass p.0 p.1 p.2)
+    (cond-false _ _ _ (no_limits pass number numbered)
+    ∙ found_then (number_below (2 ^ 32) pass) _ number _ (says_below (2 ^ 32) pass number numbered small)
+    (found_then (parts_at SPACE p.0) _ (moment, m.0) _ (says_word p.0 moment m.0 m.1 m.2)
+    (found_then (number_of moment) _ at _ (says_number moment at timed)
+    (ap (call_of number at) m.3 ∙ says_spoken number at text said is))))
+
+pub says_line : (line : List ℕ) (said : Said) → Says line said → line_of line ≡ Some said
+unfolding line_of
 says_line line (Sets limits) is =
     let m = say_limits line limits is in
     ap line_of m.1 ∙ found_then (parts_at SPACE (codes "limits" ++ SPACE ∷ m.0)) _ (codes "limits", m.0) _ (begins_cut SPACE (codes "limits") m.0 refl) (ap (option_map Sets) m.2)
-says_line line (Calls said) is =
-    let p = is.words in
-    let m = p.3 in
-    found_then (parts_at SPACE line) _ (is.pass, p.0) _ (says_word line is.pass p.0 p.1 p.2)
-    (cond-false _ _ _ (no_limits is.pass said.0 is.numbered)
-    ∙ found_then (number_below (2 ^ 32) is.pass) _ said.0 _ (says_below (2 ^ 32) is.pass said.0 is.numbered is.small)
-    (found_then (parts_at SPACE p.0) _ (is.moment, m.0) _ (says_word p.0 is.moment m.0 m.1 m.2)
-    (found_then (number_of is.moment) _ is.at _ (says_number is.moment is.at is.timed)
-    (ap (option_map (on_pass said.0)) (ap (call_of is.at) m.3 ∙ says_call is.at is.call said.1 is.called)))))
+says_line line (Calls said) is = spoken_line line is.pass is.moment is.call said.0 is.at (Calls said) is.words is.numbered is.small is.timed (refl, is.called)
+says_line line (Refuses fault) is = spoken_line line is.pass is.moment is.command is.number is.at (Refuses fault) is.words is.numbered is.small is.timed is.refused
 
 -- what is read of a line is what it says, and a line says one thing at most
 pub one_saying : (line : List ℕ) (said other : Said) → Says line said → Says line other → said ≡ other

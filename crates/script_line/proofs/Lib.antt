@@ -1,1 +1,2 @@
 mod GrammarLemmas
+mod HexLemmas

@@ -6,6 +6,8 @@ use Rattle.cdni_base.specs.Rule.{rule_status, rule_text}
 use Rattle.targets.specs.Target.{url_text}
 use Rattle.targets.specs.declared.endpoint.Endpoint.{Endpoint}
 use Rattle.targets.specs.declared.target.Target.{Target}
+use Rattle.trigger_command.specs.Fault.{refusal_text}
+use Rattle.trigger_command.specs.declared.fault.CommandFault.{CommandFault}
 use Rattle.trigger_status.specs.Collection.{collection_text}
 use Rattle.trigger_status.specs.Job.{job_text, status_name}
 use Rattle.trigger_status.specs.declared.job.Filter.{Filter}
@@ -121,6 +123,10 @@ trigger_line reply.Deleted = codes "deleted\n"
 trigger_line (reply.Resource job) = codes "resource " ++ job_text job ++ LINE_FEED ∷ []
 trigger_line (reply.Collection filter ids) = codes "collection " ++ scripted_collection filter ids ++ LINE_FEED ∷ []
 trigger_line answer = []
+
+-- the answer of a command that is refused
+abbrev pub refused_line : CommandFault → List ℕ
+refused_line fault = refusal_text fault ++ LINE_FEED ∷ []
 
 -- the answer of a reply, where this was noted of the call
 unfoldable pub answer_line : Reply → Option MetaFault → List ℕ

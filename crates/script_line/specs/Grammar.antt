@@ -29,8 +29,14 @@ use Rattle.trigger_status.specs.declared.job.Filter.{Filter}
 use Rattle.trigger_status.specs.declared.job.Filter.TheVariants as filter
 use Rattle.cdni_base.specs.Limits.{Bounds, AreInRange}
 use Rattle.cdni_base.specs.declared.type_name.TheConstants.{TYPE_NAME_MAX}
-use Rattle.history.specs.Event.{Event, RefreshBegin, RefreshEnd, Admit, FetchEnd, Finish, Cut, LogFile, ListLogs, DropLog, Advance, Cancel, Delete, ReadStatus, Lists}
-use Rattle.script_line.specs.Line.{Noted, Said, Scripted, Sets, Calls, on_pass}
+use Rattle.history.specs.Event.{Event, RefreshBegin, RefreshEnd, Admit, FetchEnd, Finish, Cut, LogFile, ListLogs, DropLog, Command, Advance, Cancel, Delete, ReadStatus, Lists}
+use Rattle.trigger_command.specs.Reading.{Judged, command_of}
+use Rattle.trigger_command.specs.declared.command.Act.{Act}
+use Rattle.trigger_command.specs.declared.command.Act.TheVariants as act
+use Rattle.trigger_command.specs.declared.command.Command as trigger_command
+use Rattle.trigger_command.specs.declared.fault.CommandFault.{CommandFault}
+use Rattle.script_line.specs.Line.{Noted, Said, Scripted, Sets, Calls, Refuses, on_pass}
+use Rattle.script_line.specs.Own.{own_id, control_host}
 use Rattle.script_line.specs.declared.grammar.TheConstants.{SPACE, BAR, COMMA, LONGEST_METHOD}
 
 -- a decimal number below the bound, without leading zeros
@@ -226,27 +232,43 @@ bare_of moment text = if bytes_eq text (codes "refresh") then Some (RefreshBegin
     else (if bytes_eq text (codes "cut") then Some (Cut moment)
     else (if bytes_eq text (codes "logs") then Some ListLogs else None))
 
+-- ---- trigger commands
+
+-- the call of what is commanded
+abbrev pub commands : ℕ → Act → Event
+commands moment (act.Trigger spec) = Command spec moment
+commands moment (act.Cancel ids) = Cancel ids moment
+
+-- a command that reads is the pass's call; another is refused
+abbrev pub commanded : ℕ → ℕ → Judged trigger_command.Command → Said
+commanded pass moment (Ok command) = on_pass pass (plain (commands moment command.act))
+commanded pass moment (Err fault) = Refuses fault
+
 -- ---- a line
 
--- a word and what stands after the space behind it
-abbrev pub worded : ℕ → List ℕ × List ℕ → Option Noted
-worded moment word = if bytes_eq word.0 (codes "get") then option_map plain (get_of moment word.1)
-    else (if bytes_eq word.0 (codes "got") then option_map plain (got_of moment word.1)
-    else (if bytes_eq word.0 (codes "meta") then meta_of moment word.1
-    else option_map plain (of_numbers moment word.0 word.1)))
+-- a word and what stands after the space behind it; a command is one for the node of a script
+unfoldable pub worded : ℕ → ℕ → List ℕ × List ℕ → Option Said
+worded pass moment word =
+    if bytes_eq word.0 (codes "get") then option_map (on_pass pass) (option_map plain (get_of moment word.1))
+    else (if bytes_eq word.0 (codes "got") then option_map (on_pass pass) (option_map plain (got_of moment word.1))
+    else (if bytes_eq word.0 (codes "meta") then option_map (on_pass pass) (meta_of moment word.1)
+    else (if bytes_eq word.0 (codes "command")
+    then Some (commanded pass moment (command_of own_id control_host word.1))
+    else option_map (on_pass pass) (option_map plain (of_numbers moment word.0 word.1)))))
 
--- the event, or else the other
-abbrev pub plainly_or : Option Event → Option Noted → Option Noted
-plainly_or (Some event) other = Some (plain event)
-plainly_or None other = other
+-- the pass's event, or else the other
+abbrev pub plainly_or : ℕ → Option Event → Option Said → Option Said
+plainly_or pass (Some event) other = Some (on_pass pass (plain event))
+plainly_or pass None other = other
 
-unfoldable pub call_of : ℕ → List ℕ → Option Noted
-call_of moment text = plainly_or (bare_of moment text) (parts_at SPACE text >>= worded moment)
+-- what the pass calls, or commands in vain
+unfoldable pub call_of : ℕ → ℕ → List ℕ → Option Said
+call_of pass moment text = plainly_or pass (bare_of moment text) (parts_at SPACE text >>= worded pass moment)
 
 -- PASS MOMENT and a call: the pass, and what follows it
 unfoldable pub scripted_of : List ℕ × List ℕ → Option Said
 scripted_of pass = number_below (2 ^ 32) pass.0 >>= λ number. parts_at SPACE pass.1
-    >>= λ moment. number_of moment.0 >>= λ at. option_map (on_pass number) (call_of at moment.1)
+    >>= λ moment. number_of moment.0 >>= λ at. call_of number at moment.1
 
 -- `limits` and the limits, or a pass, a moment and a call
 unfoldable pub line_of : List ℕ → Option Said
@@ -454,10 +476,24 @@ abbrev pub SaysOfNumbers : ℕ → List ℕ → Noted → Type 0
 SaysOfNumbers moment text said = SaysFinish moment text said ⊎ (SaysLost moment text said
     ⊎ (SaysMetafail moment text said ⊎ (SaysLog text said ⊎ (SaysDropLog text said ⊎ SaysOfTriggers moment text said))))
 
+-- command JSON, where the JSON text is a command for the node of a script
+pub record SaysCommand (moment : ℕ) (text : List ℕ) (said : Noted) : Type 0 where
+  pub json : List ℕ
+  pub command : trigger_command.Command
+  pub words : IsWords (codes "command" ∷ []) json text
+  pub reads : command_of own_id control_host json ≡ Ok command
+  pub call : said ≡ plain (commands moment command.act)
+
 -- one of the calls
 abbrev pub SaysCall : ℕ → List ℕ → Noted → Type 0
 SaysCall moment text said = SaysBare moment text said ⊎ (SaysGet moment text said ⊎ (SaysGot moment text said
-    ⊎ (SaysMeta moment text said ⊎ SaysOfNumbers moment text said)))
+    ⊎ (SaysMeta moment text said ⊎ (SaysCommand moment text said ⊎ SaysOfNumbers moment text said))))
+
+-- command JSON, where this is the first fault of the JSON text as such a command
+pub record SaysRefusal (text : List ℕ) (fault : CommandFault) : Type 0 where
+  pub json : List ℕ
+  pub words : IsWords (codes "command" ∷ []) json text
+  pub fails : command_of own_id control_host json ≡ Err fault
 
 -- PASS MOMENT and a call
 pub record SaysScripted (line : List ℕ) (said : Scripted) : Type 0 where
@@ -470,6 +506,19 @@ pub record SaysScripted (line : List ℕ) (said : Scripted) : Type 0 where
   pub small : said.0 < 2 ^ 32
   pub timed : IsNumber moment at
   pub called : SaysCall at call said.1
+
+-- PASS MOMENT and a command that is refused
+pub record SaysRefused (line : List ℕ) (fault : CommandFault) : Type 0 where
+  pub pass : List ℕ
+  pub moment : List ℕ
+  pub command : List ℕ
+  pub number : ℕ
+  pub at : ℕ
+  pub words : IsWords (pass ∷ moment ∷ []) command line
+  pub numbered : IsNumber pass number
+  pub small : number < 2 ^ 32
+  pub timed : IsNumber moment at
+  pub refused : SaysRefusal command fault
 
 -- limits CACHE ROWS TRIGGERS FILES PERIOD OPENED
 pub record SaysLimits (line : List ℕ) (limits : Bounds) : Type 0 where
@@ -488,7 +537,8 @@ pub record SaysLimits (line : List ℕ) (limits : Bounds) : Type 0 where
   pub answers : IsNumber opened limits.opened
   pub ranged : AreInRange limits
 
--- a line sets the limits, or calls
+-- a line sets the limits, or calls, or its command is refused
 abbrev pub Says : List ℕ → Said → Type 0
 Says line (Sets limits) = SaysLimits line limits
 Says line (Calls scripted) = SaysScripted line scripted
+Says line (Refuses fault) = SaysRefused line fault

@@ -1,13 +1,13 @@
 //! The answer lines of a script.
 
-ghost use Rattle.std.specs.Prelude.{◌≡◌, ◌++◌, ◌∷◌, [], IfOk, OnOk, codes, decimal, option_map};
+ghost use Rattle.std.specs.Prelude.{◌≡◌, ◌≢◌, ◌≤◌, ◌++◌, length, ◌∷◌, [], IfOk, OnOk, codes, decimal, option_map};
 ghost use Rattle.std.specs.List.{flat_map};
 ghost use Rattle.cdni_base.specs.Rule.{rule_status, rule_text};
 ghost use Rattle.script_line.specs.declared.grammar.TheConstants.{SPACE};
-ghost use Rattle.script_line.specs.declared.answer.TheConstants.{LINE_FEED};
+ghost use Rattle.script_line.specs.declared.answer.TheConstants.{HEX_BLOCK, LINE_FEED};
 ghost use Rattle.hex.specs.Hex.{encode_lower};
 ghost use Rattle.trigger_status.specs.Job.{job_text, status_name};
-ghost use Rattle.script_line.specs.Answer.{kind_word, body_word, more_number, more_status, numbers_word, log_text, ended_text, numbered, endpoint_word, plan_text, cause_text, fault_text, failed_line, fetch_line, statuses_word, scripted_collection, trigger_line, answer_line};
+ghost use Rattle.script_line.specs.Answer.{kind_word, body_word, more_number, more_status, numbers_word, log_text, ended_text, numbered, endpoint_word, plan_text, cause_text, fault_text, failed_line, fetch_line, statuses_word, scripted_collection, trigger_line, refused_line, answer_line};
 
 use crate::own::{control_host, own_id};
 use cdni_base::{Endpoint, HTTP_PORT, Rule, Target, Text};
@@ -16,11 +16,14 @@ use itoa::Buffer;
 use json_read::{FieldCause, FieldFault};
 use metadata_objects::MetaFault;
 use std::alloc::{AllocError, Global};
-use trigger_command::IdList;
+use trigger_command::{CommandFault, IdList};
 use trigger_status::{Filter, Job, JobStatus, collection_json, job_json};
 
 /// The byte that ends a line.
 pub const LINE_FEED: u8 = b'\n';
+
+/// How many bytes of a body are written in digits at once.
+const HEX_BLOCK: usize = 64;
 
 /// The line that answers a call of this reply, with its line feed, where this was noted of the call.
 ///
@@ -64,7 +67,7 @@ pub fn put_reply_line(
             fetch,
             kind,
             body,
-        } => put_hit(alloc, out, *delivery, *fetch, kind.bytes(), body.bytes()),
+        } => put_hit(out, *delivery, *fetch, kind.bytes(), body.bytes()),
         Reply::Ended { kept } => put(out, ended_text(*kept)),
         Reply::Full { count } => put_numbered(out, b"full", *count),
         Reply::NotOpen { number } => put_numbered(out, b"not-open", *number),
@@ -82,6 +85,19 @@ pub fn put_reply_line(
         Reply::Dropped => put(out, b"dropped\n"),
         _ => put_of_trigger(alloc, out, reply),
     }
+}
+
+/// Adds the line by which a command of this fault is refused, with its line feed.
+///
+/// # Errors
+/// Want of memory; then a part of the line may have been added.
+pub fn put_refusal(alloc: Global, out: &mut Vec<u8>, fault: &CommandFault) -> Result<(), AllocError>
+    requires { fault.now ≢ CommandFault.Memory }
+    ensures { OnOk result (out.new.items ≡ out.old.items ++ refused_line fault.now) }
+{
+    let refusal = fault.text(alloc)?;
+    put(out, refusal.bytes())?;
+    put(out, b"\n")
 }
 
 // adds the answer line of a reply that speaks of triggers
@@ -279,7 +295,6 @@ fn ended_text(kept: bool) -> &'static [u8]
 }
 
 fn put_hit(
-    alloc: Global,
     out: &mut Vec<u8>,
     delivery: u64,
     fetch: u64,
@@ -297,7 +312,7 @@ fn put_hit(
     put(out, b" ")?;
     put_kind(out, kind)?;
     put(out, b" ")?;
-    put_body(alloc, out, body)?;
+    put_body(out, body)?;
     put(out, b"\n")
 }
 
@@ -313,13 +328,13 @@ fn put_kind(out: &mut Vec<u8>, kind: &[u8]) -> Result<(), AllocError>
 }
 
 // the body in lower-case hexadecimal digits, or `-` where it is empty
-fn put_body(alloc: Global, out: &mut Vec<u8>, body: &[u8]) -> Result<(), AllocError>
+fn put_body(out: &mut Vec<u8>, body: &[u8]) -> Result<(), AllocError>
     ensures { OnOk result (out.new.items ≡ out.old.items ++ body_word body.now) }
 {
     if body.is_empty() {
         put(out, b"-")
     } else {
-        put_hex(alloc, out, body)
+        put_hex(out, body)
     }
 }
 
@@ -343,11 +358,29 @@ fn put_endpoint(out: &mut Vec<u8>, endpoint: &Endpoint) -> Result<(), AllocError
 }
 
 // two lower-case hexadecimal digits for each byte
-fn put_hex(alloc: Global, out: &mut Vec<u8>, bytes: &[u8]) -> Result<(), AllocError>
+fn put_hex(out: &mut Vec<u8>, bytes: &[u8]) -> Result<(), AllocError>
     ensures { OnOk result (out.new.items ≡ out.old.items ++ encode_lower bytes.now) }
 {
-    let digits = hex::encode(alloc, bytes)?;
-    put(out, digits.as_bytes())
+    let mut rest = bytes;
+    'parts: while rest.len() > HEX_BLOCK {
+        let (block, more) = rest.split_at(HEX_BLOCK);
+        put_block(out, block)?;
+        rest = more;
+    }
+    put_block(out, rest)
+}
+
+// the same of at most 64 bytes, whose digits stand on the stack
+fn put_block(out: &mut Vec<u8>, block: &[u8]) -> Result<(), AllocError>
+    requires { length block.now ≤ HEX_BLOCK }
+    ensures { OnOk result (out.new.items ≡ out.old.items ++ encode_lower block.now) }
+{
+    let mut digits = [0u8; 2 * HEX_BLOCK];
+    let digits = &mut digits[..2 * block.len()];
+    match hex::encode_to_slice(block, digits) {
+        Ok(()) => put(out, digits),
+        Err(_) => Err(AllocError),
+    }
 }
 
 #[tactic(auto, unfolding(crate::specs::Answer::fetch_line))]

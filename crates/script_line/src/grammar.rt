@@ -1,16 +1,19 @@
 //! What a line of a script says.
 
-ghost use Rattle.std.specs.Prelude.{◌≡◌, ◌<◌, ◌≤◌, List, ℕ, IfOk, length, option_map};
-ghost use Rattle.std.specs.List.{list_all};
+ghost use Rattle.std.specs.Prelude.{◌≡◌, ◌==◌, ◌<◌, ◌≤◌, List, ℕ, IfOk, IfSome, length, option_map};
+ghost use Rattle.std.specs.List.{list_all, position};
 ghost use Rattle.metadata_objects.specs.Host.{host_index_of_text};
 ghost use Rattle.listing.specs.Number.{number_of};
 ghost use Rattle.listing.specs.Word.{parts_at};
 ghost use Rattle.history.specs.Event.{event_of};
 ghost use Rattle.script_line.specs.Line.{said_of, on_pass, Gives, Reads, Said, Sets, Calls, TellsNoMemory};
+ghost use Rattle.script_line.specs.Own.{own_id, control_host};
+ghost use Rattle.trigger_command.specs.Reading.{command_of};
 ghost use Rattle.cdni_base.specs.declared.type_name.TheConstants.{TYPE_NAME_MAX};
-ghost use Rattle.script_line.specs.Grammar.{number_below, number_between, bounds_of, limits_of, bare_of, of_numbers, of_triggers, joined, filter_of, finish_of, got_of, content_of, kind_of, is_kind, is_graphic_byte, body_of, url_target, key_of_url, keys_of, is_token_byte, is_method, protocol_of, place_at, asked_of, get_of, refreshed, meta_of, plain, call_of, scripted_of, line_of, Says};
+ghost use Rattle.script_line.specs.Grammar.{number_below, number_between, bounds_of, limits_of, bare_of, of_numbers, of_triggers, joined, filter_of, finish_of, got_of, content_of, kind_of, is_kind, is_graphic_byte, body_of, url_target, key_of_url, keys_of, is_token_byte, is_method, protocol_of, place_at, asked_of, get_of, refreshed, meta_of, plain, commands, commanded, worded, call_of, scripted_of, line_of, Says};
 
 use crate::line::{ScriptFault, ScriptLine};
+use crate::own::{control_host, own_id};
 use cdni_base::{
     Asked, Body, Ignored, Key, Limits, Moment, Protocol, TYPE_NAME_MAX, Target, TargetFault, Text,
     TypeName, url_key,
@@ -21,7 +24,7 @@ use listing::{Listing, cut_at, read_decimal};
 use location_acl::{Ip, Place, read_country, read_network};
 use metadata_objects::{HostIndex, KeyList, MetaFault, Tree};
 use std::alloc::{AllocError, Global};
-use trigger_command::IdList;
+use trigger_command::{Act, Command, CommandFault, IdList};
 use trigger_status::Filter;
 use upstream_gate::{Got, Outcome};
 
@@ -64,10 +67,22 @@ fn read_words(alloc: Global, line: &[u8]) -> Result<ScriptLine, ScriptFault>
 }
 
 // the next word, and what stands after the space behind it
+#[tactic(auto, unfolding(listing::specs::Word::parts_at))]
 fn cut(text: &[u8]) -> Result<(&[u8], &[u8]), ScriptFault>
     ensures { Gives (λ parts. (parts.0.now, parts.1.now)) result (parts_at SPACE text.now) }
 {
-    cut_at(SPACE, text).ok_or(ScriptFault::NotALine)
+    match space_in(text) {
+        Some(place) => Ok((&text[..place], &text[place + 1..])),
+        None => Err(ScriptFault::NotALine),
+    }
+}
+
+// where the first space is; words are short, so they are looked at byte by byte
+fn space_in(text: &[u8]) -> Option<usize>
+    ensures place { result ≡ position (λ x. x == SPACE) text.now }
+    ensures within { IfSome result (λ place. place < length text.now) }
+{
+    text.iter().position(|byte| *byte == SPACE)
 }
 
 // PASS MOMENT and a call, where the pass is read: its text, and what follows it
@@ -159,12 +174,26 @@ fn read_call(
     moment: Moment,
     text: &[u8],
 ) -> Result<ScriptLine, ScriptFault>
-    ensures { Reads result (option_map (on_pass pass) (call_of moment text.now)) }
+    ensures { Reads result (call_of pass moment text.now) }
 {
     if let Some(call) = read_bare(moment, text) {
         return Ok(line_of_call(pass, call));
     }
     let (word, rest) = cut(text)?;
+    read_worded(alloc, pass, moment, word, rest)
+}
+
+// a word, and what stands after the space behind it
+#[tactic(auto, unfolding(crate::specs::Grammar::worded))]
+fn read_worded(
+    alloc: Global,
+    pass: u32,
+    moment: Moment,
+    word: &[u8],
+    rest: &[u8],
+) -> Result<ScriptLine, ScriptFault>
+    ensures { Reads result (worded pass moment (word.now, rest.now)) }
+{
     if word == b"get".as_slice() {
         return read_get(alloc, pass, moment, rest);
     }
@@ -173,6 +202,9 @@ fn read_call(
     }
     if word == b"meta".as_slice() {
         return read_meta(alloc, pass, moment, rest);
+    }
+    if word == b"command".as_slice() {
+        return read_command(alloc, pass, moment, rest);
     }
     Ok(line_of_call(pass, read_numbered(alloc, moment, word, rest)?))
 }
@@ -369,6 +401,34 @@ fn refreshed(
         },
         note,
     })
+}
+
+// JSON: the call that it commands, or why it is refused
+fn read_command(
+    alloc: Global,
+    pass: u32,
+    moment: Moment,
+    json: &[u8],
+) -> Result<ScriptLine, ScriptFault>
+    ensures { Reads result (Some (commanded pass moment (command_of own_id control_host json.now))) }
+{
+    let own = own_id(alloc)?;
+    let control = control_host(alloc)?;
+    match Command::read(alloc, json, &own, &control) {
+        Ok(command) => Ok(line_of_call(pass, call_of_act(moment, command.act))),
+        Err(CommandFault::Memory) => Err(ScriptFault::Memory),
+        Err(fault) => Ok(ScriptLine::Refused(fault)),
+    }
+}
+
+// the call of what is commanded
+fn call_of_act(moment: Moment, act: Act) -> Call
+    ensures { event_of result ≡ commands moment act }
+{
+    match act {
+        Act::Trigger(spec) => Call::Command { spec, moment },
+        Act::Cancel(ids) => Call::Cancel { ids, moment },
+    }
 }
 
 // METHOD PROTOCOL IP ASN CC URL

@@ -7,6 +7,6 @@ pub mod laws;
 mod line;
 mod own;
 
-pub use answer::{LINE_FEED, put_reply_line, reply_line};
+pub use answer::{LINE_FEED, put_refusal, put_reply_line, reply_line};
 pub use grammar::read_line;
 pub use line::{ScriptFault, ScriptLine};

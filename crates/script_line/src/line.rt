@@ -4,6 +4,7 @@ use cdni_base::Limits;
 use history::Call;
 use metadata_objects::MetaFault;
 use std::alloc::AllocError;
+use trigger_command::CommandFault;
 
 /// A line of a script.
 #[derive(Drop)]
@@ -16,6 +17,8 @@ pub enum ScriptLine {
         call: Call,
         note: Option<MetaFault>,
     },
+    /// A trigger command that is refused, and why. It is no call.
+    Refused(CommandFault),
 }
 
 /// Why no line was read.

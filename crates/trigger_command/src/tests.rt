@@ -291,3 +291,75 @@ fn a_cancel_is_read(rt: HostRuntime) -> Result<(), Fail> {
     assert!(rt; same);
     Ok(())
 }
+
+// the examples of commands (RFC 8007, sections 6.1.1 and 6.1.2): what each does, and how many items it selects
+const EXAMPLES: [(&str, TriggerKind, usize); 2] = [
+    (
+        concat!(
+            r#"{ "trigger" : { "type": "preposition","#,
+            r#" "metadata.urls" : [ "https://metadata.example.com/a/b/c" ],"#,
+            r#" "content.urls" : [ "https://www.example.com/a/b/c/1","#,
+            r#" "https://www.example.com/a/b/c/2", "https://www.example.com/a/b/c/3","#,
+            r#" "https://www.example.com/a/b/c/4" ] }, "cdn-path" : [ "AS64496:1" ] }"#,
+        ),
+        TriggerKind::Preposition,
+        5,
+    ),
+    (
+        concat!(
+            r#"{ "trigger" : { "type": "invalidate","#,
+            r#" "metadata.patterns" : [ { "pattern" : "https://metadata.example.com/a/b/*" } ],"#,
+            r#" "content.patterns" : [ { "pattern" : "https://www.example.com/a/b/c/*","#,
+            r#" "case-sensitive" : true } ] }, "cdn-path" : [ "AS64496:1" ] }"#,
+        ),
+        TriggerKind::Invalidate,
+        2,
+    ),
+];
+
+// whether this text is a trigger of this kind and of so many items, which came through one CDN
+fn is_trigger(alloc: Global, text: &str, kind: TriggerKind, items: usize) -> Result<bool, Fail> {
+    let command = read_command(alloc, text.as_bytes())?;
+    let spec = spec_of(&command).ok_or("no trigger")?;
+    Ok(spec.kind == kind && spec.selection.item_count() == items && command.path.len() == 1)
+}
+
+#[test]
+fn the_examples_of_the_standard_are_read(rt: HostRuntime) -> Result<(), Fail> {
+    for (text, kind, items) in &EXAMPLES {
+        let is = is_trigger(rt.alloc(), text, *kind, *items)?;
+        assert!(rt; is, "{text}");
+    }
+    Ok(())
+}
+
+#[test]
+fn the_examples_of_the_standard_end_at_the_cdn_that_sent_them(rt: HostRuntime) -> Result<(), Fail> {
+    let own = ProviderId::read(rt.alloc(), b"AS64496:1")?;
+    let control = control_host(rt.alloc())?;
+    for (text, _, _) in &EXAMPLES {
+        let refused = is_refused(rt.alloc(), text.as_bytes(), &own, &control, "loop")?;
+        assert!(rt; refused, "{text}");
+    }
+    Ok(())
+}
+
+// whether this text cancels these triggers, whose status resources are at the host of the standard's examples
+fn is_cancel(alloc: Global, text: &[u8], ids: &[u64]) -> Result<bool, Fail> {
+    let own = own_id(alloc)?;
+    let control = Endpoint::read(alloc, b"dcdn.example.com")?.host;
+    let command = command_of(alloc, text, &own, &control)?;
+    let found = ids_of(&command).ok_or("no cancel")?;
+    Ok(found.as_slice() == ids)
+}
+
+#[test]
+fn the_resources_of_the_standard_are_cancelled(rt: HostRuntime) -> Result<(), Fail> {
+    let text = concat!(
+        r#"{ "cancel" : [ "https://dcdn.example.com/triggers/0","#,
+        r#" "https://dcdn.example.com/triggers/1" ], "cdn-path" : [ "AS64496:1" ] }"#,
+    );
+    let is = is_cancel(rt.alloc(), text.as_bytes(), &[0, 1])?;
+    assert!(rt; is);
+    Ok(())
+}

@@ -194,3 +194,137 @@ fn the_collection_of_all_is_written(rt: HostRuntime) -> Result<(), Fail> {
     assert!(rt; same);
     Ok(())
 }
+
+const PREPOSITION: &str = concat!(
+    r#"{ "trigger" : { "type": "preposition","#,
+    r#" "metadata.urls" : [ "https://metadata.example.com/a/b/c" ],"#,
+    r#" "content.urls" : [ "https://www.example.com/a/b/c/1", "https://www.example.com/a/b/c/2","#,
+    r#" "https://www.example.com/a/b/c/3", "https://www.example.com/a/b/c/4" ] },"#,
+    r#" "cdn-path" : [ "AS64496:1" ] }"#,
+);
+
+const INVALIDATE: &str = concat!(
+    r#"{ "trigger" : { "type": "invalidate","#,
+    r#" "metadata.patterns" : [ { "pattern" : "https://metadata.example.com/a/b/*" } ],"#,
+    r#" "content.patterns" : [ { "pattern" : "https://www.example.com/a/b/c/*","#,
+    r#" "case-sensitive" : true } ] }, "cdn-path" : [ "AS64496:1" ] }"#,
+);
+
+const NEW_SITE: &str = concat!(
+    r#"{ "trigger" : { "type": "preposition","#,
+    r#" "content.urls" : [ "https://newsite.example.com/index.html" ] },"#,
+    r#" "cdn-path" : [ "AS64496:1" ] }"#,
+);
+
+// the examples of status resources (RFC 8007, sections 6.1, 6.2.4 and 6.2.6): the command, the status, the second of
+// its last change, which content URLs could not be fetched, and the resource. This CDN writes no `etime`, both flags of
+// a pattern, and `econtent` for a URL that could not be fetched.
+const EXAMPLES: [(&str, JobStatus, u64, &[u32], &str); 4] = [
+    (
+        PREPOSITION,
+        JobStatus::Pending,
+        1462351690,
+        &[],
+        concat!(
+            r#"{"ctime":1462351690,"mtime":1462351690,"status":"pending","trigger":{"content.urls":["#,
+            r#""https://www.example.com/a/b/c/1","https://www.example.com/a/b/c/2","#,
+            r#""https://www.example.com/a/b/c/3","https://www.example.com/a/b/c/4"],"#,
+            r#""metadata.urls":["https://metadata.example.com/a/b/c"],"type":"preposition"}}"#,
+        ),
+    ),
+    (
+        INVALIDATE,
+        JobStatus::Pending,
+        1462351690,
+        &[],
+        concat!(
+            r#"{"ctime":1462351690,"mtime":1462351690,"status":"pending","trigger":{"content.patterns":["#,
+            r#"{"case-sensitive":true,"match-query-string":false,"pattern":"https://www.example.com/a/b/c/*"}],"#,
+            r#""metadata.patterns":[{"case-sensitive":false,"match-query-string":false,"#,
+            r#""pattern":"https://metadata.example.com/a/b/*"}],"type":"invalidate"}}"#,
+        ),
+    ),
+    (
+        PREPOSITION,
+        JobStatus::Complete,
+        1462351698,
+        &[],
+        concat!(
+            r#"{"ctime":1462351690,"mtime":1462351698,"status":"complete","trigger":{"content.urls":["#,
+            r#""https://www.example.com/a/b/c/1","https://www.example.com/a/b/c/2","#,
+            r#""https://www.example.com/a/b/c/3","https://www.example.com/a/b/c/4"],"#,
+            r#""metadata.urls":["https://metadata.example.com/a/b/c"],"type":"preposition"}}"#,
+        ),
+    ),
+    (
+        NEW_SITE,
+        JobStatus::Active,
+        1462351696,
+        &[0],
+        concat!(
+            r#"{"ctime":1462351690,"errors":[{"content.urls":["https://newsite.example.com/index.html"],"#,
+            r#""error":"econtent"}],"mtime":1462351696,"status":"active","trigger":{"content.urls":["#,
+            r#""https://newsite.example.com/index.html"],"type":"preposition"}}"#,
+        ),
+    ),
+];
+
+// whether the resource of a trigger with this status is this text
+fn is_example(
+    alloc: Global,
+    command: &str,
+    status: JobStatus,
+    changed: u64,
+    places: &[u32],
+    expected: &str,
+) -> Result<bool, Fail> {
+    let job = Job {
+        id: 1,
+        spec: read_spec(alloc, command.as_bytes())?,
+        status,
+        ctime: 1462351690_000,
+        mtime: changed * 1000,
+        emeta: false,
+        econtent: index_list(alloc, places)?,
+    };
+    Ok(job_json(alloc, &job)?.is(expected.as_bytes()))
+}
+
+#[test]
+fn the_examples_of_the_standard_are_written(rt: HostRuntime) -> Result<(), Fail> {
+    for (command, status, changed, places, expected) in &EXAMPLES {
+        let is = is_example(rt.alloc(), command, *status, *changed, places, expected)?;
+        assert!(rt; is, "{expected}");
+    }
+    Ok(())
+}
+
+// whether the collection of the first two triggers at the host of the standard's examples is this text
+fn is_example_list(alloc: Global, filter: Filter, expected: &str) -> Result<bool, Fail> {
+    let own = own_id(alloc)?;
+    let control = Endpoint::read(alloc, b"dcdn.example.com")?.host;
+    let ids = id_list(alloc, &[0, 1])?;
+    Ok(is_list(alloc, &ids, filter, &own, &control, expected.as_bytes())?)
+}
+
+// the examples of collections (RFC 8007, sections 6.2.1 and 6.2.2). This CDN writes no `staleresourcetime`, and all its
+// URLs are absolute.
+#[test]
+fn the_collections_of_the_standard_are_written(rt: HostRuntime) -> Result<(), Fail> {
+    let all = concat!(
+        r#"{"cdn-id":"AS64496:0","coll-active":"http://dcdn.example.com/triggers/active","#,
+        r#""coll-all":"http://dcdn.example.com/triggers","#,
+        r#""coll-complete":"http://dcdn.example.com/triggers/complete","#,
+        r#""coll-failed":"http://dcdn.example.com/triggers/failed","#,
+        r#""coll-pending":"http://dcdn.example.com/triggers/pending","#,
+        r#""triggers":["http://dcdn.example.com/triggers/0","http://dcdn.example.com/triggers/1"]}"#,
+    );
+    let pending = concat!(
+        r#"{"triggers":["http://dcdn.example.com/triggers/0","#,
+        r#""http://dcdn.example.com/triggers/1"]}"#,
+    );
+    let same = is_example_list(rt.alloc(), Filter::All, all)?
+        && is_example_list(rt.alloc(), Filter::Pending, pending)?;
+    assert!(rt; same);
+    Ok(())
+}

@@ -1,0 +1,79 @@
+#!/usr/bin/env bash
+# Instructions of an invalidate in `cdnid replay`, counted under callgrind: its command, start and end, by a URL,
+# by a pattern and by a ccid, each of which hits one object, over 100, 10,000 and 100,000 kept objects; and those of
+# 1,000 hits after it. A start looks at every kept object, so it costs the more the more there are: the figures are
+# stated, and nothing is asked of them.
+# Usage: bench/triggers.sh [OBJECTS..]   (needs valgrind; builds the program by `rt run` where it is not built; 100,000
+# objects take some ten minutes)
+set -eu
+source "$(dirname "$0")/replaying.sh"
+
+get='0 2000 get GET http/1.1 192.0.2.7 as64496 us http://v.example'
+sources='{"sources":[{"endpoints":["o.example"],"protocol":"http/1.1"}]}'
+source='{"generic-metadata-type":"MI.SourceMetadata","generic-metadata-value":'$sources'}'
+grouping='{"generic-metadata-type":"MI.Grouping","generic-metadata-value":{"ccid":"group"}}'
+group='{"path-pattern":{"pattern":"/group/*"},"path-metadata":{"metadata":['$grouping']}}'
+metadata='{"hosts":[{"host":"v.example","host-metadata":{"metadata":['$source'],"paths":['$group']}}]}'
+
+# Installed metadata, and so many kept objects, of which the first is in the group. Every delivery has ended, and its
+# row is in a log file. Argument: how many objects.
+objects() {
+  echo 'limits 1073741824 100000 10000 64 60000 1000000'
+  echo '0 1000 refresh'
+  echo "0 1000 meta 1 http://up.example/i $metadata"
+  awk -v count="$1" -v get="$get" 'BEGIN {
+    for (i = 1; i <= count; i++) {
+      print get (i == 1 ? "/group/000001" : sprintf("/films/%06d", i))
+      print "0 2000 got " i " 200 video/mp2t 30313233343536373839616263646566"
+      print "0 2000 finish " i " 200 200 16"
+      if (i % 50000 == 0 || i == count) print "0 2000 cut"
+    }
+  }'
+}
+
+# What selects one object. Argument: by what.
+selection() {
+  case $1 in
+    url) echo '"content.urls":["http://v.example/films/000050"]' ;;
+    pattern) echo '"content.patterns":[{"pattern":"*/films/000050"}]' ;;
+    ccid) echo '"content.ccid":["group"]' ;;
+  esac
+}
+
+# An invalidate, up to its end. Argument: by what.
+invalidate() {
+  echo '0 3000 command {"cdn-path":[],"trigger":{"type":"invalidate",'"$(selection "$1")"'}}'
+  echo '0 3000 advance 1'
+  echo '0 3000 advance 1'
+}
+
+# 1,000 requests that hit. Argument: how many objects there are.
+hits() {
+  awk -v count="$1" -v get="$get" 'BEGIN {
+    for (i = 0; i < 1000; i++) {
+      object = 2 + i % (count - 1)
+      print get sprintf("/films/%06d", object == 50 ? 51 : object)
+    }
+  }'
+}
+
+# Ends with status 1 where the answers do not have so many lines that begin so. Arguments: how many, and the words.
+answered() {
+  [[ $(grep -c "^$2" "$room/answers") == "$1" ]] || { echo "not $1 answers $2" >&2; exit 1; }
+}
+
+(($#)) || set -- 100 10000 100000
+for count in "$@"; do
+  objects "$count" >"$room/objects"
+  before=$(replay_instructions "$room/objects")
+  answered "$count" 'ended kept'
+  for by in url pattern ccid; do
+    { cat "$room/objects"; invalidate "$by"; } >"$room/invalidated"
+    { cat "$room/invalidated"; hits "$count"; } >"$room/hit"
+    invalidated=$(replay_instructions "$room/invalidated")
+    answered 1 'final complete'
+    hit=$(replay_instructions "$room/hit")
+    answered 1000 hit
+    echo "$count objects, by $by: $((invalidated - before)) instructions, $((hit - invalidated)) of 1,000 hits after it"
+  done
+done

@@ -1,8 +1,9 @@
 //! The commands that read and write streams.
 
-ghost use Rattle.std.specs.Prelude.{◌≡◌, ◌≢◌, ◌≤◌, ◌⊎◌, ◌↔◌, [], true, false, None, IfSome};
+ghost use Rattle.std.specs.Prelude.{◌≡◌, ◌≢◌, ◌≤◌, ◌⊎◌, ◌↔◌, ℕ, List, [], true, false, None, IfSome};
 ghost use Rattle.std.specs.Io.KnownBytes.{Appends, Keeps};
 ghost use Rattle.edge_base.specs.Causes.{Rose};
+ghost use Rattle.replay_script.specs.Law.{played, KeepsTheLaw};
 ghost use Rattle.replay_script.specs.Script.{answers};
 ghost use Rattle.http_node.specs.Batch.{is_replay, status_of, Replays, ReadsScript, MeetsNone};
 ghost use Rattle.http_node.specs.Note.{note_of, IsNoted};
@@ -10,12 +11,12 @@ ghost use Rattle.http_node.specs.Note.{note_of, IsNoted};
 use crate::note::{NOTE_ROOM, note_status, put_end_note, write_note};
 use cdni_base::Scratch;
 use edge_base::{Sink, Source, Status};
-use replay_script::{ReplayEnd, replay};
+use replay_script::{ReplayEnd, replay, the_answers_of_a_script_are_lawful};
 use std::alloc::Global;
 
 /// Runs the command that `words`, those after the program's name, are: `replay` reads a script from `input`
-/// and writes its answers to `output`. It always returns. One line on how it ended, but for `Done`, goes to `notes`;
-/// where that fails nothing else changes.
+/// and writes its answers to `output`, which keep the law of deliveries. It always returns. One line on how it ended, but
+/// for `Done`, goes to `notes`; where that fails nothing else changes.
 ///
 /// The status is `Done` where the input was read to its end; `Script` where a line was read that is no script line
 /// and every answer before it was written, and then no other but `Memory`; `Usage` exactly where the words are no
@@ -51,6 +52,9 @@ pub fn batch_main<S: Source, K: Sink, E: Sink>(
         → MeetsNone (S.left input.old) (S.left input.new) (K.held output.old) (K.held output.new)
         → (result ≡ Status.Script) ⊎ (result ≡ Status.Memory) }
 
+    // The law of deliveries, over the history of every script.
+    ensures law { (script : List ℕ) → KeepsTheLaw (played script) }
+
     // The causes of the faults.
     ensures read { result ≡ Status.ReadFault → Rose (S.faults input.old) (S.faults input.new) }
     ensures read_well { result ≢ Status.ReadFault → S.faults input.new ≡ S.faults input.old }
@@ -60,6 +64,7 @@ pub fn batch_main<S: Source, K: Sink, E: Sink>(
     ensures write_later { K.faults output.old ≤ K.faults output.new }
     ensures outside { result ≢ Status.Outside }
 {
+    the_answers_of_a_script_are_lawful();
     if !is_replay(words) {
         note_status(notes, Status::Usage);
         return Status::Usage;

@@ -2,3 +2,4 @@ pub mod Ahead
 pub mod Lines
 pub mod Replay
 pub mod Script
+pub mod Law

@@ -2,9 +2,11 @@
 #![tactic(auto)]
 
 mod ahead;
+mod law;
 mod lines;
 mod script;
 mod step;
 
+pub use law::the_answers_of_a_script_are_lawful;
 pub use script::{ReplayEnd, replay};
 pub use step::{LINE_LIMIT, SCRIPT_LIMIT, Stepped, answer_one, scripted_node};

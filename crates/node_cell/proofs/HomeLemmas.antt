@@ -17,22 +17,27 @@ use Rattle.history.specs.declared.call.Call.{Call}
 use Rattle.history.specs.declared.reply.Reply.{Reply}
 use Rattle.node_cell.specs.Entries.{entry_of, history_of}
 use Rattle.node_core.specs.Home.{AreOthers, EndsOpen, IsAnswered, IsUnanswered, Who}
-use Rattle.turn_cell.specs.Cell.{SitsAt, number_of, numbers_in, numbers_of}
+use Rattle.turn_cell.specs.Cell.{IsResting, SitsAt, number_of, numbers_in, numbers_of}
 use Rattle.turn_cell.specs.History.{FollowedByOthers, NoneOf}
 use Rattle.turn_cell.specs.declared.pass.Pass.{Pass}
+use Rattle.turn_cell.specs.declared.view.View.{View}
 
 -- ---- the pass's own number
 
 pub own_of : (table : TableId) (passes : ℕ) (pass : Pass Call) → SitsAt table passes pass → Contains (numbers_of pass) (number_of pass)
-own_of table passes pass sits = subst (λ vs. Contains (numbers_in vs) pass.number) (sym sits.3) sits.6
+own_of table passes pass sits = subst (λ vs. Contains (numbers_in vs) pass.number) (sym sits.2.1) (own_in sits.2.0 sits.2.2)
+  where
+    own_in : (v : View Call) → IsResting passes pass.number v → Contains v.numbers pass.number
+    own_in v rests = rests.2
 
 -- ---- others' calls
 
 others_apart : (number : ℕ) (numbers : List ℕ) → Contains numbers number → (others : List (ℕ × Call)) → NoneOf numbers others → AreOthers number (history_of others)
 others_apart number numbers own [] none = tt
-others_apart number numbers own (called ∷ others) none =
-    ((λ same. All-head (λ (e : ℕ × Call). ¬ (Contains numbers e.0)) called others none (subst (Contains numbers) (sym same) own)),
-    others_apart number numbers own others (All-tail (λ (e : ℕ × Call). ¬ (Contains numbers e.0)) called others none))
+others_apart number numbers own (called ∷ others) none = (
+  (λ same. All-head (λ (e : ℕ × Call). ¬ (Contains numbers e.0)) called others none (subst (Contains numbers) (sym same) own)),
+  others_apart number numbers own others (All-tail (λ (e : ℕ × Call). ¬ (Contains numbers e.0)) called others none),
+)
 
 -- ---- what is open stays open while others call
 

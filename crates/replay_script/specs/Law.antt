@@ -13,8 +13,8 @@ use Rattle.replay_script.specs.Script.{Past, grown, made_with, next_said}
 unfoldable pub played_from : ℕ → ℕ → Past → List Line → Past
 played_from number at past [] = past
 played_from number at past (line ∷ lines) = option_map_or
-    (λ said. played_from (number + 1) (at + (length line.body + 1)) (grown past said) lines) past
-    (next_said (number == 1) at line)
+    (λ said. played_from (number + 1) (at + (length line.body + 1)) (grown past said) lines)
+    (next_said (number == 1) at line) past
 
 -- the node and the history that a script makes
 abbrev pub played : List ℕ → Past

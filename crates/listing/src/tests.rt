@@ -35,6 +35,7 @@ fn texts_are_looked_up(rt: HostRuntime) -> Result<(), Fail> {
 fn texts_are_one_however_they_hold_their_bytes(rt: HostRuntime) -> Result<(), Fail> {
     let alloc = rt.alloc();
     let bytes = [b'a'; 100];
+    let capitals = [b'A'; 100];
     let whole = SharedBytes::of(alloc, &bytes)?;
     for length in [0, 1, 16, 17, 100] {
         let mut texts = HashSet::new(alloc);
@@ -43,7 +44,7 @@ fn texts_are_one_however_they_hold_their_bytes(rt: HostRuntime) -> Result<(), Fa
         assert!(rt; texts.contains(&whole.rest(bytes.len() - length)?.clone()?));
         assert!(rt; texts.contains(&Text::shared(alloc, &bytes[..length])?.clone()?));
         assert!(rt; texts.contains(&Text::from_vec(bytes[..length].to_vec(alloc)?)));
-        assert!(rt; texts.contains(&Text::lowered(alloc, &[b'A'; 100][..length])?.clone()?));
+        assert!(rt; texts.contains(&Text::lowered(alloc, &capitals[..length])?.clone()?));
         assert!(rt; !texts.contains(&Text::of(alloc, b"aa")?));
     }
     Ok(())

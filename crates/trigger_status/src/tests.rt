@@ -216,14 +216,14 @@ const NEW_SITE: &str = concat!(
     r#" "cdn-path" : [ "AS64496:1" ] }"#,
 );
 
-// the examples of status resources (RFC 8007, sections 6.1, 6.2.4 and 6.2.6): the command, the status, the second of
+// the examples of status resources (RFC 8007, sections 6.1, 6.2.4 and 6.2.6): the command, the status, the moment of
 // its last change, which content URLs could not be fetched, and the resource. This CDN writes no `etime`, both flags of
 // a pattern, and `econtent` for a URL that could not be fetched.
 const EXAMPLES: [(&str, JobStatus, u64, &[u32], &str); 4] = [
     (
         PREPOSITION,
         JobStatus::Pending,
-        1462351690,
+        1462351690_000,
         &[],
         concat!(
             r#"{"ctime":1462351690,"mtime":1462351690,"status":"pending","trigger":{"content.urls":["#,
@@ -235,7 +235,7 @@ const EXAMPLES: [(&str, JobStatus, u64, &[u32], &str); 4] = [
     (
         INVALIDATE,
         JobStatus::Pending,
-        1462351690,
+        1462351690_000,
         &[],
         concat!(
             r#"{"ctime":1462351690,"mtime":1462351690,"status":"pending","trigger":{"content.patterns":["#,
@@ -247,7 +247,7 @@ const EXAMPLES: [(&str, JobStatus, u64, &[u32], &str); 4] = [
     (
         PREPOSITION,
         JobStatus::Complete,
-        1462351698,
+        1462351698_000,
         &[],
         concat!(
             r#"{"ctime":1462351690,"mtime":1462351698,"status":"complete","trigger":{"content.urls":["#,
@@ -259,7 +259,7 @@ const EXAMPLES: [(&str, JobStatus, u64, &[u32], &str); 4] = [
     (
         NEW_SITE,
         JobStatus::Active,
-        1462351696,
+        1462351696_000,
         &[0],
         concat!(
             r#"{"ctime":1462351690,"errors":[{"content.urls":["https://newsite.example.com/index.html"],"#,
@@ -283,7 +283,7 @@ fn is_example(
         spec: read_spec(alloc, command.as_bytes())?,
         status,
         ctime: 1462351690_000,
-        mtime: changed * 1000,
+        mtime: changed,
         emeta: false,
         econtent: index_list(alloc, places)?,
     };

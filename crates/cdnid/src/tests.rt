@@ -1,7 +1,9 @@
 //! What no clause says: worked scripts, the real streams, and that calls succeed where there is memory.
 
 use crate::scripts::{NODE_SCRIPTS, SCRIPTS};
-use crate::trigger_scripts::{LONG_TRIGGERED, TRIGGERED, TRIGGERS};
+use crate::trigger_scripts::{
+    LONG_TRIGGERED, MORE_TRIGGERED, STILL_MORE_TRIGGERED, TRIGGERED, TRIGGERS,
+};
 use edge_base::{
     Clock, ListClock, MemorySink, MemorySource, Put, Sink, Source, Status, StdSink, StdSource,
     SteadySink, SteadySource, Took, WallClock, write_counted,
@@ -111,6 +113,18 @@ fn scripts_of_trigger_calls_have_their_answers(rt: HostRuntime) -> Result<(), Fa
 #[test]
 fn scripts_of_what_triggers_do_have_their_answers(rt: HostRuntime) -> Result<(), Fail> {
     assert_eq!(rt; first_other(rt.alloc(), &TRIGGERED)?, None);
+    Ok(())
+}
+
+#[test]
+fn more_scripts_of_triggers_have_their_answers(rt: HostRuntime) -> Result<(), Fail> {
+    assert_eq!(rt; first_other(rt.alloc(), &MORE_TRIGGERED)?, None);
+    Ok(())
+}
+
+#[test]
+fn still_more_scripts_of_triggers_have_their_answers(rt: HostRuntime) -> Result<(), Fail> {
+    assert_eq!(rt; first_other(rt.alloc(), &STILL_MORE_TRIGGERED)?, None);
     Ok(())
 }
 

@@ -2,7 +2,7 @@
 use Rattle.std.specs.Prelude.{◌≡◌, ◌⊎◌, ℕ, ◌+◌, ◌<◌, ◌≤◌, Bool, true, false, ◌&&◌, List, [], ◌++◌, length, codes}
 use Rattle.std.specs.declared.option.Option.{Option}
 use Rattle.std.specs.Io.KnownBytes.{IsAtEnd}
-use Rattle.upstream_http.specs.List.{items_of}
+use Rattle.field_list.specs.List.{items_of}
 use Rattle.http_wire.specs.Moves.{Moves, IsToCome}
 use Rattle.http_wire.specs.Body.{capped, IsUntouched, ReadsLength, ReadsToEnd, FindsLength, FindsToEnd}
 use Rattle.http_wire.specs.Chunked.{IsChunked, IsTooLarge, IsBadBody, IsCutBody, ReadsChunked, FindsChunked}

@@ -6,7 +6,7 @@ use Rattle.std.specs.declared.option.Option.{Option}
 use Rattle.byte_range.specs.Want.{number_of}
 use Rattle.cdni_base.specs.declared.type_name.TheConstants.{TYPE_NAME_MAX}
 use Rattle.http_wire.specs.Fields.{values_of}
-use Rattle.upstream_http.specs.List.{items_of}
+use Rattle.field_list.specs.List.{items_of}
 use Rattle.upstream_http.specs.declared.fields.Framing.{Framing}
 use Rattle.upstream_http.specs.declared.fields.Framing.TheVariants as framing
 use Rattle.upstream_http.specs.declared.fields.Transfer.{Transfer}

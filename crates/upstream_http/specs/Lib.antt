@@ -2,5 +2,4 @@ pub mod Answer
 pub mod Exchange
 pub mod Fields
 pub mod FinalHead
-pub mod List
 pub mod Request

@@ -1,14 +1,15 @@
 //! What the header fields of an answer tell of its body (RFC 9110, section 8, and RFC 9112, section 6).
 
 ghost use Rattle.std.specs.Prelude.{◌≡◌, IfOk, codes};
-ghost use Rattle.upstream_http.specs.List.{items_of};
+ghost use Rattle.field_list.specs.List.{items_of};
 ghost use Rattle.upstream_http.specs.Fields.{is_word, transfer_of, only_chunked, framing_of, is_no_coding, are_identity, kind_in, kind_of};
 
-use crate::list::{Told, told_by};
 use byte_range::number_of;
 use cdni_base::{Text, TypeName};
+use field_list::{Told, told_by};
 use http_wire::{Found, ResponseHead};
 use std::alloc::{AllocError, Global};
+use std::marker::Model;
 
 // how the end of a body is told
 #[derive(Clone, Copy, Debug, PartialEq, Eq)]
@@ -66,15 +67,31 @@ impl Told for Transfer {
     }
 }
 
-impl Told for bool {
+// whether all content codings so far are identity; it is seen as that
+#[derive(Drop)]
+pub(crate) struct AllIdentity {
+    holds: bool,
+}
+
+impl Model for AllIdentity {
+    ghost use Rattle.std.specs.Prelude.{Bool};
+
+    ghost Value = { Bool };
+
+    ghost view = { λ all. all.holds };
+}
+
+impl Told for AllIdentity {
     ghost use Rattle.std.specs.Prelude.{◌&&◌};
     ghost use Rattle.upstream_http.specs.Fields.{is_no_coding};
 
     ghost after = { λ told item. told && is_no_coding item };
 
     // whether the next one is no coding either
-    fn with(self, item: &[u8]) -> bool {
-        self && is_no_coding(item)
+    fn with(self, item: &[u8]) -> AllIdentity {
+        AllIdentity {
+            holds: self.holds && is_no_coding(item),
+        }
     }
 }
 
@@ -112,7 +129,7 @@ fn transfer_of(word: &[u8]) -> Transfer
 pub(crate) fn is_identity(head: &ResponseHead) -> bool
     ensures { result ≡ are_identity (items_of (codes "content-encoding") head.now.headers) }
 {
-    told_by(head, b"content-encoding", true)
+    told_by(head, b"content-encoding", AllIdentity { holds: true }).holds
 }
 
 // whether this item is empty or identity

@@ -5,7 +5,6 @@ mod answer;
 mod exchanging;
 mod fields;
 mod final_head;
-mod list;
 mod request;
 #[cfg(test)]
 mod tests;

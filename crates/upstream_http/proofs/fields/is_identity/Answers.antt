@@ -1,7 +1,7 @@
 use Rattle.std.proofs.Common.{◌∙◌, true, codes}
 use Rattle.upstream_http.specs.Fields.{is_no_coding}
-use Rattle.upstream_http.specs.List.{items_of}
-use Rattle.upstream_http.proofs.ListLemmas.{all_by_fold}
+use Rattle.field_list.specs.List.{items_of}
+use Rattle.field_list.proofs.ListLemmas.{all_by_fold}
 use Rattle.upstream_http.proofs.fields.is_identity.Goals as goal
 
 pub returns : goal.returns

@@ -1,0 +1,12 @@
+pub mod Answer
+pub mod Content
+pub mod Course
+pub mod Doing
+pub mod Ending
+pub mod Gathering
+pub mod Moment
+pub mod Open
+pub mod Refresh
+pub mod Request
+pub mod Session
+pub mod Turn

@@ -1,0 +1,36 @@
+-- A whole connection.
+use Rattle.std.specs.Prelude.{◌≡◌, ℕ, ◌+◌, ◌-◌, List, [], ◌∷◌, ◌==◌}
+use Rattle.std.specs.declared.option.Option.{Option}
+use Rattle.std.specs.Io.KnownBytes.{IsAtEnd}
+use Rattle.location_acl.specs.declared.footprint.Place.{Place}
+use Rattle.session.specs.Answer.{Answer}
+use Rattle.session.specs.Doing.{Doing, nothing, then}
+use Rattle.session.specs.Turn.{NoHead, Turn}
+use Rattle.session.specs.declared.ending.Ending.{Ending}
+use Rattle.session.specs.declared.ending.Ending.TheVariants as ending
+use Rattle.session.specs.declared.ending.Next.{Next}
+use Rattle.session.specs.declared.ending.Next.TheVariants as next
+use Rattle.session.specs.declared.serve.TheConstants.{TURNS_MAX}
+use Rattle.session.specs.declared.settings.Settings.{Settings}
+
+-- the first where another request follows, else the second of the ending
+abbrev pub Goes : Next → Type 0 → (Ending → Type 0) → Type 0
+Goes next.GoesOn On Ends = On
+Goes (next.Stops end) On Ends = Ends end
+
+-- After so many answered requests, and what was done in them, these turns lead to the ending and to all that was done.
+unfoldable pub Runs : Settings → Place → ℕ → Doing → List Doing → Ending → Doing → Type 0
+Runs settings place n done [] end all = (n ≡ TURNS_MAX) × (end ≡ ending.Turns) × (all ≡ done)
+Runs settings place n done (d ∷ ds) end all = (after : Next) × Turn settings place (n == TURNS_MAX - 1) d after
+    × Goes after (Runs settings place (n + 1) (then done d) ds end all)
+        (λ last. (ds ≡ []) × (end ≡ last) × (all ≡ then done d))
+
+-- what is done in a session that ends so: its turns; or it had no room for them
+abbrev pub Session : Settings → Place → Doing → Ending → Type 0
+Session settings place d end = (turns : List Doing) × Runs settings place 0 nothing turns end d
+
+-- where the session ends within no head and no body, nothing was read ahead; the source then gave its end
+abbrev pub Leaves : Option (List ℕ) → List ℕ → Ending → Type 0
+Leaves left rest ending.Ended = IsAtEnd left × (rest ≡ [])
+Leaves left rest (ending.CutShort taken) = IsAtEnd left × (rest ≡ [])
+Leaves left rest end = Unit {0}

@@ -1,0 +1,145 @@
+-- One request of a connection, or why there is none.
+use Rattle.std.specs.Prelude.{◌≡◌, ◌⊎◌, ℕ, ◌<◌, Bool, true, false, not, List, [], ◌∷◌, ◌++◌, length, None, Some, bytes_eq}
+use Rattle.std.specs.declared.option.Option.{Option}
+use Rattle.cdni_base.specs.declared.asked.Asked.{Asked}
+use Rattle.http_wire.specs.Body.{framing_of}
+use Rattle.http_wire.specs.Head.{HasNoHead, HeadParts, IsHopelessHead, Spells}
+use Rattle.http_wire.specs.Reading.{IsBadHead, IsCutShort}
+use Rattle.http_wire.specs.declared.body.Framing.{Framing}
+use Rattle.http_wire.specs.declared.body.Framing.TheVariants as framing
+use Rattle.httparse.specs.Grammar.{MayBecomeRequest}
+use Rattle.location_acl.specs.declared.footprint.Place.{Place}
+use Rattle.session.specs.Answer.{Answer, IsConstant, Takes}
+use Rattle.session.specs.Content.{IsShown, absent_shown}
+use Rattle.session.specs.Course.{Content}
+use Rattle.session.specs.Doing.{Doing}
+use Rattle.session.specs.Ending.{next_of}
+use Rattle.session.specs.Moment.{capped}
+use Rattle.session.specs.Request.{asked_of, manner_of}
+use Rattle.session.specs.declared.constant.Constant.{Constant}
+use Rattle.session.specs.declared.constant.Constant.TheVariants as constant
+use Rattle.session.specs.declared.ending.Ending.{Ending}
+use Rattle.session.specs.declared.ending.Ending.TheVariants as ending
+use Rattle.session.specs.declared.ending.Next.{Next}
+use Rattle.session.specs.declared.ending.Next.TheVariants as next
+use Rattle.session.specs.declared.settings.Settings.{Settings}
+use Rattle.session.specs.declared.turn.TheConstants.{BODY_LIMIT}
+
+-- the sink took a constant answer, or what it took of it
+abbrev pub Writes : Constant → List ℕ → Bool → Type 0
+Writes which written fault = (answer : Answer) × IsConstant which answer × Takes answer written fault
+
+-- no head came, and why: nothing was called or asked; bytes that begin no head are answered 400, and want of memory 503
+abbrev pub HasNoRequest : List ℕ → List ℕ → Ending → Type 0
+HasNoRequest bytes written ending.Ended = (bytes ≡ []) × (written ≡ [])
+HasNoRequest bytes written (ending.CutShort taken) = IsCutShort HasNoHead MayBecomeRequest bytes taken × (written ≡ [])
+HasNoRequest bytes written (ending.BadHead taken) = IsBadHead HasNoHead IsHopelessHead bytes taken
+    × Writes constant.BadRequest written false
+HasNoRequest bytes written ending.ReadFault = written ≡ []
+HasNoRequest bytes written ending.Memory = Writes constant.Unavailable written false
+HasNoRequest bytes written ending.WriteFault =
+    ((taken : ℕ) × IsBadHead HasNoHead IsHopelessHead bytes taken × Writes constant.BadRequest written true)
+    ⊎ Writes constant.Unavailable written true
+HasNoRequest bytes written ending.Closed = ⊥
+HasNoRequest bytes written ending.Turns = ⊥
+
+pub record NoHead (d : Doing) (end : Ending) : Type 0 where
+  pub cause : HasNoRequest d.bytes d.written end
+  pub moments : d.moments ≡ []
+  pub exchanges : d.exchanges ≡ []
+  pub calls : d.calls ≡ []
+
+-- a head of which the request is refused: it asks for nothing, or its body is told in no way that is read, or is too long
+abbrev pub IsRefusedBody : Framing → Constant → Type 0
+IsRefusedBody framing.Coded which = which ≡ constant.LengthRequired
+IsRefusedBody framing.BadLength which = which ≡ constant.BadRequest
+IsRefusedBody (framing.Length count) which = (BODY_LIMIT < count) × (which ≡ constant.ContentTooLarge)
+
+abbrev pub IsRefused : Option Asked → Framing → Constant → Type 0
+IsRefused None told which = which ≡ constant.BadRequest
+IsRefused (Some asked) told which = IsRefusedBody told which
+
+-- a head was read, and the clock; nothing was called or asked
+pub record OnlyHead (head : HeadParts) (front : List ℕ) (moment : ℕ) (d : Doing) : Type 0 where
+  pub spells : Spells front head
+  pub moments : d.moments ≡ moment ∷ []
+  pub exchanges : d.exchanges ≡ []
+  pub calls : d.calls ≡ []
+
+-- a request that is refused by its head; then the connection closes
+pub record Refusal (settings : Settings) (last : Bool) (d : Doing) (after : Next) : Type 0 where
+  pub head : HeadParts
+  pub moment : ℕ
+  pub which : Constant
+  pub fault : Bool
+  pub only : OnlyHead head d.bytes moment d
+  pub refused : IsRefused (asked_of settings.protocol head) (framing_of head.headers) which
+  pub writes : Writes which d.written fault
+  pub goes : after ≡ next_of (not last) false fault
+
+-- a request that was not read whole: its body was cut short after so many bytes, or the source failed, or no memory was
+-- found, which is answered 503
+abbrev pub BreaksOff : List ℕ → List ℕ → Next → Type 0
+BreaksOff part written (next.Stops (ending.CutShort taken)) = (length part ≡ taken) × (written ≡ [])
+BreaksOff part written (next.Stops ending.ReadFault) = written ≡ []
+BreaksOff part written (next.Stops ending.Memory) = Writes constant.Unavailable written false
+BreaksOff part written (next.Stops ending.WriteFault) = Writes constant.Unavailable written true
+BreaksOff part written other = ⊥
+
+pub record Broken (d : Doing) (after : Next) : Type 0 where
+  pub head : HeadParts
+  pub front : List ℕ
+  pub part : List ℕ
+  pub moment : ℕ
+  pub only : OnlyHead head front moment d
+  pub bytes : d.bytes ≡ front ++ part
+  pub breaks : BreaksOff part d.written after
+
+-- a request that was read whole, with a body of as many bytes as are announced, and what passed since
+pub record Whole (settings : Settings) (last : Bool) (asked : Asked) (head : HeadParts) (moment : ℕ) (inner d : Doing) : Type 0 where
+  pub front : List ℕ
+  pub content : List ℕ
+  pub spells : Spells front head
+  pub asks : asked_of settings.protocol head ≡ Some asked
+  pub framed : framing_of head.headers ≡ framing.Length (length content)
+  pub is : d ≡ record {
+    bytes = front ++ content;
+    moments = moment ∷ inner.moments;
+    exchanges = inner.exchanges;
+    written = inner.written;
+    calls = inner.calls;
+  }
+
+-- it is of the control host, under which nothing stands yet
+pub record Control (settings : Settings) (last : Bool) (d : Doing) (after : Next) : Type 0 where
+  pub asked : Asked
+  pub head : HeadParts
+  pub moment : ℕ
+  pub inner : Doing
+  pub answer : Answer
+  pub fault : Bool
+  pub whole : Whole settings last asked head moment inner d
+  pub control : bytes_eq asked.target.host settings.control ≡ true
+  pub answered : IsShown (absent_shown (manner_of head (capped moment) last)) answer
+  pub takes : Takes answer inner.written fault
+  pub moments : inner.moments ≡ []
+  pub exchanges : inner.exchanges ≡ []
+  pub calls : inner.calls ≡ []
+  pub goes : after ≡ next_of (manner_of head (capped moment) last).leaves false fault
+
+-- it is for content
+pub record Served (settings : Settings) (place : Place) (last : Bool) (d : Doing) (after : Next) : Type 0 where
+  pub asked : Asked
+  pub head : HeadParts
+  pub moment : ℕ
+  pub inner : Doing
+  pub whole : Whole settings last asked head moment inner d
+  pub other : bytes_eq asked.target.host settings.control ≡ false
+  pub content : Content settings.root asked place (manner_of head (capped moment) last) inner after
+
+-- a request, which may be the last of its connection, or why there is none; and what follows
+abbrev pub Turn : Settings → Place → Bool → Doing → Next → Type 0
+Turn settings place last d after =
+    ((end : Ending) × (after ≡ next.Stops end) × NoHead d end)
+    ⊎ (Refusal settings last d after ⊎ (Broken d after ⊎ (Control settings last d after
+    ⊎ Served settings place last d after)))

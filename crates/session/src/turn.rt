@@ -1,0 +1,143 @@
+//! One request of a connection.
+
+ghost use Rattle.std.specs.Prelude.{◌≡◌, ◌≤◌};
+ghost use Rattle.cdni_base.specs.declared.date.TheConstants.{DATE_END};
+ghost use Rattle.edge_base.specs.Causes.{Rose};
+ghost use Rattle.http_wire.specs.Moves.{Moves};
+ghost use Rattle.session.specs.Doing.{Any, Does, Doing};
+ghost use Rattle.session.specs.Session.{LeavesNext};
+ghost use Rattle.session.specs.Turn.{Turn};
+
+use crate::answer_room::AnswerRoom;
+use crate::clock::read_clock;
+use crate::constant::{Constant, refuse};
+use crate::content::{content, fall_short};
+use crate::ending::{Ending, Next, next_of};
+use crate::manner::Manner;
+use crate::request::read_request;
+use crate::settings::Settings;
+use cdni_base::{Asked, Moment};
+use edge_base::{Clock, Sink, Source};
+use http_wire::{BodyRead, Head, HeadRead, Inbox, body_of, read_head};
+use location_acl::Place;
+use node_core::Home;
+use std::alloc::Global;
+use std::sync::Wait;
+use std::thread::Threads;
+use upstream_gate::Gate;
+
+/// The most bytes of the body of a request.
+pub const BODY_LIMIT: u64 = 1_048_576;
+
+// reads the next request and answers it
+pub(crate) fn serve_one<
+    R: Threads + Wait + Sync,
+    H: Home,
+    S: Source,
+    K: Sink,
+    G: Gate,
+    C: Clock,
+>(
+    rt: &R,
+    alloc: Global,
+    home: &mut H,
+    place: Place,
+    source: &mut S,
+    sink: &mut K,
+    gate: &mut G,
+    clock: &mut C,
+    settings: &Settings,
+    inbox: &mut Inbox,
+    room: &mut AnswerRoom,
+    last: bool,
+) -> Next {
+    match read_head(alloc, source, inbox) {
+        HeadRead::Head(head) => serve_head(
+            rt, alloc, home, place, source, sink, gate, clock, settings, inbox, room, &head, last,
+        ),
+        HeadRead::Ended => Next::Stops(Ending::Ended),
+        HeadRead::CutShort { taken } => {
+            inbox.clear();
+            Next::Stops(Ending::CutShort { taken })
+        }
+        HeadRead::BadHead { taken } => {
+            inbox.clear();
+            refuse_head(sink, taken)
+        }
+        HeadRead::ReadFault => Next::Stops(Ending::ReadFault),
+        HeadRead::Memory => fall_short(sink),
+    }
+}
+
+// answers bytes that begin no head
+fn refuse_head<K: Sink>(sink: &mut K, taken: u64) -> Next {
+    let sent = refuse(sink, Constant::BadRequest);
+    if sent.fault {
+        Next::Stops(Ending::WriteFault)
+    } else {
+        Next::Stops(Ending::BadHead { taken })
+    }
+}
+
+// answers a request with this head
+fn serve_head<R: Threads + Wait + Sync, H: Home, S: Source, K: Sink, G: Gate, C: Clock>(
+    rt: &R,
+    alloc: Global,
+    home: &mut H,
+    place: Place,
+    source: &mut S,
+    sink: &mut K,
+    gate: &mut G,
+    clock: &mut C,
+    settings: &Settings,
+    inbox: &mut Inbox,
+    room: &mut AnswerRoom,
+    head: &Head,
+    last: bool,
+) -> Next {
+    let moment = read_clock(clock);
+    match read_request(alloc, head, settings.protocol, moment, last) {
+        Ok(Some((asked, manner))) => match body_of(alloc, source, inbox, head, BODY_LIMIT) {
+            BodyRead::Body(_) => serve_whole(
+                rt, alloc, home, place, sink, gate, clock, settings, room, asked, &manner,
+            ),
+            BodyRead::Coded => refuse_request(sink, Constant::LengthRequired, last),
+            BodyRead::BadLength { taken: _ } => refuse_request(sink, Constant::BadRequest, last),
+            BodyRead::TooLarge { len: _ } => refuse_request(sink, Constant::ContentTooLarge, last),
+            BodyRead::CutShort { taken } => Next::Stops(Ending::CutShort { taken }),
+            BodyRead::ReadFault => Next::Stops(Ending::ReadFault),
+            BodyRead::Memory => fall_short(sink),
+        },
+        Ok(None) => refuse_request(sink, Constant::BadRequest, last),
+        Err(_) => fall_short(sink),
+    }
+}
+
+// answers that the request is refused
+fn refuse_request<K: Sink>(sink: &mut K, which: Constant, last: bool) -> Next {
+    let sent = refuse(sink, which);
+    next_of(!last, false, sent.fault)
+}
+
+// answers a request that was read whole
+fn serve_whole<R: Threads + Wait + Sync, H: Home, K: Sink, G: Gate, C: Clock>(
+    rt: &R,
+    alloc: Global,
+    home: &mut H,
+    place: Place,
+    sink: &mut K,
+    gate: &mut G,
+    clock: &mut C,
+    settings: &Settings,
+    room: &mut AnswerRoom,
+    asked: Asked,
+    manner: &Manner,
+) -> Next {
+    if asked.target.host == settings.control {
+        let sent = room.miss_control(sink, manner);
+        return next_of(manner.leaves, false, sent.fault);
+    }
+    content(
+        rt, alloc, home, sink, gate, clock, &settings.root, place, room, asked, manner,
+    )
+}

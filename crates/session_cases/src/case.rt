@@ -1,0 +1,172 @@
+//! A case: a node, a gate and a clock, and connections.
+
+use crate::connection;
+use crate::field;
+use crate::telling::{TellingGate, TellingHome};
+use anyhow::bail;
+use cdni_base::{Body, Endpoint, Limits, Protocol, ProviderId, Target, TypeName};
+use edge_base::ListClock;
+use history::{Call, Reply};
+use node_core::{Home, Node, OneHome};
+use serde_json::Value;
+use session::Settings;
+use std::alloc::Global;
+use std::sync::Wait;
+use std::thread::Threads;
+use upstream_gate::{Got, MemoryGate, Outcome, OutcomeList};
+
+fn limits_of(value: &Value) -> anyhow::Result<Limits> {
+    let cache = field::number(value, "cache")?;
+    let rows = field::number(value, "rows")?;
+    let triggers = field::number(value, "triggers")?;
+    let files = field::number(value, "files")?;
+    let period = field::number(value, "period")?;
+    let opened = field::number(value, "opened")?;
+    let are_kept = cache <= 1_073_741_824 && period <= 86_400_000;
+    let are_counts = (1..=100_000).contains(&rows)
+        && (1..=10_000).contains(&triggers)
+        && (1..=64).contains(&files)
+        && (1..=4_611_686_018_427_387_904).contains(&opened);
+    if !are_kept || !are_counts {
+        bail!("a limit is out of range");
+    }
+    Ok(Limits {
+        cache,
+        rows,
+        triggers,
+        files,
+        period,
+        opened,
+    })
+}
+
+fn got_of(alloc: Global, value: &Value) -> anyhow::Result<Outcome> {
+    let kind = field::bytes(alloc, value, "kind")?;
+    let Some(kind) = TypeName::of(alloc, &kind)? else {
+        bail!("a type is too long");
+    };
+    let body = Body::of(alloc, &field::bytes(alloc, value, "body")?)?;
+    match Got::new(field::short(value, "status")?, kind, body) {
+        Some(got) => Ok(Outcome::Got(got)),
+        None => bail!("an outcome is none"),
+    }
+}
+
+fn outcome_of(alloc: Global, value: &Value) -> anyhow::Result<Outcome> {
+    Ok(match field::text(value, "outcome")? {
+        "Got" => got_of(alloc, value)?,
+        "Refused" => Outcome::Refused {
+            status: field::short(value, "status")?,
+        },
+        "TooLong" => Outcome::TooLong {
+            length: field::number(value, "length")?,
+        },
+        "Malformed" => Outcome::Malformed {
+            taken: field::number(value, "taken")?,
+        },
+        "Cut" => Outcome::Cut {
+            taken: field::number(value, "taken")?,
+        },
+        "Failed" => Outcome::Failed,
+        "Memory" => Outcome::Memory,
+        _ => bail!("an outcome is unknown"),
+    })
+}
+
+fn gate_of(alloc: Global, case: &Value) -> anyhow::Result<TellingGate> {
+    let mut outcomes = OutcomeList::new(alloc);
+    for value in field::list(case, "outcomes")? {
+        outcomes.push(outcome_of(alloc, value)?)?;
+    }
+    Ok(TellingGate {
+        gate: MemoryGate::new(alloc, outcomes)?,
+        lines: Vec::new(alloc),
+        is_whole: true,
+    })
+}
+
+fn settings_of(alloc: Global, value: &Value) -> anyhow::Result<Settings> {
+    let protocol = match field::text(value, "protocol")? {
+        "http/1.1" => Protocol::Http,
+        "https/1.1" => Protocol::Https,
+        _ => bail!("a protocol is unknown"),
+    };
+    let Ok(control) = Endpoint::read(alloc, field::text(value, "control")?.as_bytes()) else {
+        bail!("a host does not read");
+    };
+    let root = field::text(value, "root")?.as_bytes();
+    let Ok(root) = Target::read(alloc, root, None, false) else {
+        bail!("a URL does not read");
+    };
+    let Ok(own) = ProviderId::read(alloc, field::text(value, "own")?.as_bytes()) else {
+        bail!("an id does not read");
+    };
+    Ok(Settings {
+        protocol,
+        control: control.host,
+        root,
+        own,
+    })
+}
+
+fn home_of(alloc: Global, case: &Value) -> anyhow::Result<TellingHome> {
+    let limits = limits_of(field::get(case, "limits")?)?;
+    let node = Node::new(alloc, &limits, field::text_of(alloc, case, "origin")?)?;
+    Ok(TellingHome {
+        home: OneHome { node, number: 0 },
+        lines: Vec::new(alloc),
+        is_whole: true,
+    })
+}
+
+// Whether the rows of the deliveries are cut into the file that was to be made.
+fn cuts_otherwise<R: Threads + Wait + Sync>(
+    rt: &R,
+    alloc: Global,
+    home: &mut TellingHome,
+    case: &Value,
+) -> anyhow::Result<bool> {
+    let cut = field::get(case, "cut")?;
+    home.lines.clear();
+    let moment = field::number(cut, "moment")?;
+    let reply = home.call(rt, alloc, Call::Cut { moment })?;
+    let mut told = Vec::new(alloc);
+    told.extend_from_slice(b"other: ")?;
+    told.extend_from_slice(&field::bytes(alloc, cut, "reply")?)?;
+    told.extend_from_slice(b"\n")?;
+    if home.lines != told {
+        return Ok(true);
+    }
+    let Reply::File { number } = reply else {
+        return Ok(!field::get(case, "log")?.is_null());
+    };
+    match home.call(rt, alloc, Call::LogFile { number })? {
+        Reply::LogText { text } => Ok(!text.is(&field::bytes(alloc, case, "log")?)),
+        _ => Ok(true),
+    }
+}
+
+// Runs a case; in what it differs from what was to pass, if it does.
+pub fn differs<R: Threads + Wait + Sync>(
+    rt: &R,
+    alloc: Global,
+    case: &Value,
+) -> anyhow::Result<Option<&'static str>> {
+    let settings = settings_of(alloc, field::get(case, "settings")?)?;
+    let mut home = home_of(alloc, case)?;
+    let mut gate = gate_of(alloc, case)?;
+    let moments = field::numbers(alloc, case, "moments")?;
+    let mut clock = ListClock::new(alloc, &moments)?;
+    for value in field::list(case, "connections")? {
+        let place = connection::differs(
+            rt, alloc, &mut home, &mut gate, &mut clock, &settings, value,
+        )?;
+        if place.is_some() {
+            return Ok(place);
+        }
+    }
+    if cuts_otherwise(rt, alloc, &mut home, case)? {
+        return Ok(Some("the log file"));
+    }
+    Ok(None)
+}

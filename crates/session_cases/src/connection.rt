@@ -1,0 +1,103 @@
+//! One connection of a case.
+
+use crate::field;
+use crate::telling::{TellingGate, TellingHome};
+use crate::told::{told_asks, told_calls};
+use anyhow::bail;
+use edge_base::{ListClock, MemorySink, MemorySource};
+use location_acl::{Ip, Place};
+use serde_json::Value;
+use session::{Ending, Peer, Settings, serve_session};
+use std::alloc::Global;
+use std::sync::Wait;
+use std::thread::Threads;
+
+// The place of the client.
+fn place_of(value: &Value) -> anyhow::Result<Place> {
+    let Ok(ip) = Ip::read(field::text(value, "ip")?.as_bytes()) else {
+        bail!("an address does not read");
+    };
+    let asn = match field::get(value, "asn")?.as_u64() {
+        Some(number) => match u32::try_from(number) {
+            Ok(number) => Some(number),
+            Err(_) => bail!("a number is too large"),
+        },
+        None => None,
+    };
+    let country = match field::get(value, "country")?.as_str() {
+        Some(text) => match text.as_bytes() {
+            [first, second] => Some((*first, *second)),
+            _ => bail!("a country has two letters"),
+        },
+        None => None,
+    };
+    Ok(Place { ip, asn, country })
+}
+
+// Whether the connection ended as it was to.
+fn is_ending(value: &Value, ending: Ending) -> anyhow::Result<bool> {
+    let name = field::text(value, "ending")?;
+    Ok(match ending {
+        Ending::Ended => name == "Ended",
+        Ending::Closed => name == "Closed",
+        Ending::BadHead { taken } => {
+            name == "BadHead"
+                && field::number(value, "least")? <= taken
+                && taken <= field::number(value, "most")?
+        }
+        Ending::CutShort { taken } => {
+            name == "CutShort" && taken == field::number(value, "taken")?
+        }
+        Ending::ReadFault => name == "ReadFault",
+        Ending::WriteFault => name == "WriteFault",
+        Ending::Turns => name == "Turns",
+        Ending::Memory => name == "Memory",
+    })
+}
+
+// Serves a connection; in what it differs from what was to pass, if it does.
+pub fn differs<R: Threads + Wait + Sync>(
+    rt: &R,
+    alloc: Global,
+    home: &mut TellingHome,
+    gate: &mut TellingGate,
+    clock: &mut ListClock,
+    settings: &Settings,
+    value: &Value,
+) -> anyhow::Result<Option<&'static str>> {
+    let peer = Peer {
+        place: place_of(field::get(value, "peer")?)?,
+    };
+    let bytes = field::joined(alloc, value, "source")?;
+    let mut source = MemorySource::new(alloc, &bytes, &field::numbers(alloc, value, "reads")?)?;
+    let mut sink = MemorySink::new(alloc, &field::numbers(alloc, value, "takes")?)?;
+    home.lines.clear();
+    gate.lines.clear();
+    let ending = serve_session(
+        rt,
+        alloc,
+        home,
+        &peer,
+        &mut source,
+        &mut sink,
+        gate,
+        clock,
+        settings,
+    );
+    if !home.is_whole || !gate.is_whole {
+        bail!("no memory");
+    }
+    if !is_ending(value, ending)? {
+        return Ok(Some("an ending"));
+    }
+    if sink.held() != field::joined(alloc, value, "written")?.as_slice() {
+        return Ok(Some("the bytes"));
+    }
+    if home.lines != told_calls(alloc, value)? {
+        return Ok(Some("the calls"));
+    }
+    if gate.lines != told_asks(alloc, value)? {
+        return Ok(Some("the asks"));
+    }
+    Ok(None)
+}

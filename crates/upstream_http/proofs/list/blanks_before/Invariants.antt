@@ -1,9 +1,0 @@
-use Rattle.std.proofs.Common.{◌≡◌, ◌≤◌, ◌<◌, ◌-◌, ℕ, true, length, get_or}
-use Rattle.upstream_http.specs.List.{is_blank}
-use Rattle.upstream_http.proofs.list.blanks_before.Given as goal
-
-abbrev pub invariant-blanks : goal.invariant-blanks
-invariant-blanks l = record { within : l.count ≤ length l.text; blank : (k : ℕ) → k < l.count → is_blank (get_or l.text k 0) ≡ true }
-
-abbrev pub decreases-blanks : goal.decreases-blanks
-decreases-blanks l = length l.text - l.count

@@ -1,9 +1,0 @@
-use Rattle.std.proofs.Common.{◌≡◌, ◌≤◌, ◌<◌, ℕ, true, length, get_or}
-use Rattle.upstream_http.specs.List.{is_blank}
-use Rattle.upstream_http.proofs.list.end_of.Given as goal
-
-abbrev pub invariant-blanks : goal.invariant-blanks
-invariant-blanks l = record { within : l.end ≤ length l.text; blank : (k : ℕ) → l.end ≤ k → k < length l.text → is_blank (get_or l.text k 0) ≡ true }
-
-abbrev pub decreases-blanks : goal.decreases-blanks
-decreases-blanks l = l.end

@@ -1,7 +1,0 @@
-use Rattle.std.proofs.Common.{◌≡◌, take}
-use Rattle.std.specs.List.{fold}
-use Rattle.upstream_http.specs.List.{items_of}
-use Rattle.upstream_http.proofs.list.told_by.Given as goal
-
-abbrev pub invariant-fields : goal.invariant-fields
-invariant-fields g l = l.told ≡ fold g.T.Told.after l.fn.start (items_of l.name (take l.i l.head.headers))

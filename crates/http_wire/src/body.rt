@@ -32,14 +32,14 @@ pub enum BodyRead {
     Memory,
 }
 
-// how the length of a body is told
+/// How the length of the body of a request is told (RFC 9112, section 6.3).
 #[derive(Clone, Copy, Debug, PartialEq, Eq)]
-pub(crate) enum Framing {
-    // a Transfer-Encoding is there
+pub enum Framing {
+    /// A Transfer-Encoding is there.
     Coded,
-    // Content-Length is repeated or no number
+    /// Content-Length is repeated or no number.
     BadLength,
-    // so many bytes
+    /// So many bytes.
     Length(u64),
 }
 

@@ -12,7 +12,7 @@ mod response;
 #[cfg(test)]
 mod tests;
 
-pub use body::{BodyRead, body_of, read_length, read_to_end};
+pub use body::{BodyRead, Framing, body_of, read_length, read_to_end};
 pub use chunked::read_chunked;
 pub use fields::{Found, Header};
 pub use head::{Head, read_head};

@@ -1,1 +1,10 @@
-
+pub mod AnswerLemmas
+pub mod CourseLemmas
+pub mod DoingLemmas
+pub mod EndedLemmas
+pub mod GatheringLemmas
+pub mod OpenLemmas
+pub mod RefreshLemmas
+pub mod RequestLemmas
+pub mod SessionLemmas
+pub mod TurnLemmas

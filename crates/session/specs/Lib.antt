@@ -2,8 +2,10 @@ pub mod Answer
 pub mod Content
 pub mod Course
 pub mod Doing
+pub mod Ended
 pub mod Ending
 pub mod Gathering
+pub mod Law
 pub mod Moment
 pub mod Open
 pub mod Refresh

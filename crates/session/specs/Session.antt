@@ -29,8 +29,12 @@ Runs settings place n done (d ∷ ds) end all = (after : Next) × Turn settings 
 abbrev pub Session : Settings → Place → Doing → Ending → Type 0
 Session settings place d end = (turns : List Doing) × Runs settings place 0 nothing turns end d
 
--- where the session ends within no head and no body, nothing was read ahead; the source then gave its end
+-- where the source ended between two requests or within one, nothing is left of it
 abbrev pub Leaves : Option (List ℕ) → List ℕ → Ending → Type 0
 Leaves left rest ending.Ended = IsAtEnd left × (rest ≡ [])
 Leaves left rest (ending.CutShort taken) = IsAtEnd left × (rest ≡ [])
 Leaves left rest end = Unit {0}
+
+abbrev pub LeavesNext : Option (List ℕ) → List ℕ → Next → Type 0
+LeavesNext left rest next.GoesOn = Unit {0}
+LeavesNext left rest (next.Stops end) = Leaves left rest end

@@ -22,6 +22,7 @@ use Rattle.session.specs.declared.ending.Ending.{Ending}
 use Rattle.session.specs.declared.ending.Ending.TheVariants as ending
 use Rattle.session.specs.declared.ending.Next.{Next}
 use Rattle.session.specs.declared.ending.Next.TheVariants as next
+use Rattle.session.specs.declared.manner.Manner.{Manner}
 use Rattle.session.specs.declared.settings.Settings.{Settings}
 use Rattle.session.specs.declared.turn.TheConstants.{BODY_LIMIT}
 
@@ -32,13 +33,13 @@ Writes which written fault = (answer : Answer) × IsConstant which answer × Tak
 -- no head came, and why: nothing was called or asked; bytes that begin no head are answered 400, and want of memory 503
 abbrev pub HasNoRequest : List ℕ → List ℕ → Ending → Type 0
 HasNoRequest bytes written ending.Ended = (bytes ≡ []) × (written ≡ [])
-HasNoRequest bytes written (ending.CutShort taken) = IsCutShort HasNoHead MayBecomeRequest bytes taken × (written ≡ [])
-HasNoRequest bytes written (ending.BadHead taken) = IsBadHead HasNoHead IsHopelessHead bytes taken
+HasNoRequest bytes written (ending.CutShort taken) = IsCutShort Spells HasNoHead MayBecomeRequest IsHopelessHead bytes taken × (written ≡ [])
+HasNoRequest bytes written (ending.BadHead taken) = IsBadHead Spells HasNoHead MayBecomeRequest IsHopelessHead bytes taken
     × Writes constant.BadRequest written false
 HasNoRequest bytes written ending.ReadFault = written ≡ []
 HasNoRequest bytes written ending.Memory = Writes constant.Unavailable written false
 HasNoRequest bytes written ending.WriteFault =
-    ((taken : ℕ) × IsBadHead HasNoHead IsHopelessHead bytes taken × Writes constant.BadRequest written true)
+    ((taken : ℕ) × IsBadHead Spells HasNoHead MayBecomeRequest IsHopelessHead bytes taken × Writes constant.BadRequest written true)
     ⊎ Writes constant.Unavailable written true
 HasNoRequest bytes written ending.Closed = ⊥
 HasNoRequest bytes written ending.Turns = ⊥
@@ -96,7 +97,7 @@ pub record Broken (d : Doing) (after : Next) : Type 0 where
   pub breaks : BreaksOff part d.written after
 
 -- a request that was read whole, with a body of as many bytes as are announced, and what passed since
-pub record Whole (settings : Settings) (last : Bool) (asked : Asked) (head : HeadParts) (moment : ℕ) (inner d : Doing) : Type 0 where
+pub record Whole (settings : Settings) (asked : Asked) (head : HeadParts) (moment : ℕ) (inner d : Doing) : Type 0 where
   pub front : List ℕ
   pub content : List ℕ
   pub spells : Spells front head
@@ -110,36 +111,45 @@ pub record Whole (settings : Settings) (last : Bool) (asked : Asked) (head : Hea
     calls = inner.calls;
   }
 
--- it is of the control host, under which nothing stands yet
-pub record Control (settings : Settings) (last : Bool) (d : Doing) (after : Next) : Type 0 where
-  pub asked : Asked
-  pub head : HeadParts
-  pub moment : ℕ
-  pub inner : Doing
+-- what passes in a request of the control host, under which nothing stands yet
+pub record Absent (manner : Manner) (d : Doing) (after : Next) : Type 0 where
   pub answer : Answer
   pub fault : Bool
-  pub whole : Whole settings last asked head moment inner d
-  pub control : bytes_eq asked.target.host settings.control ≡ true
-  pub answered : IsShown (absent_shown (manner_of head (capped moment) last)) answer
-  pub takes : Takes answer inner.written fault
-  pub moments : inner.moments ≡ []
-  pub exchanges : inner.exchanges ≡ []
-  pub calls : inner.calls ≡ []
-  pub goes : after ≡ next_of (manner_of head (capped moment) last).leaves false fault
+  pub answered : IsShown (absent_shown manner) answer
+  pub takes : Takes answer d.written fault
+  pub bytes : d.bytes ≡ []
+  pub moments : d.moments ≡ []
+  pub exchanges : d.exchanges ≡ []
+  pub calls : d.calls ≡ []
+  pub goes : after ≡ next_of manner.leaves false fault
 
--- it is for content
+-- the host of the target is the control host, or another one
+abbrev pub IsControl : Settings → Asked → Bool → Type 0
+IsControl settings asked answer = bytes_eq asked.target.host settings.control ≡ answer
+
+-- a request that was read whole is of the control host or for content
+abbrev pub Answers : Settings → Place → Asked → Manner → Doing → Next → Type 0
+Answers settings place asked manner d after = (IsControl settings asked true × Absent manner d after)
+    ⊎ (IsControl settings asked false × Content settings.root asked place manner d after)
+
 pub record Served (settings : Settings) (place : Place) (last : Bool) (d : Doing) (after : Next) : Type 0 where
   pub asked : Asked
   pub head : HeadParts
   pub moment : ℕ
   pub inner : Doing
-  pub whole : Whole settings last asked head moment inner d
-  pub other : bytes_eq asked.target.host settings.control ≡ false
-  pub content : Content settings.root asked place (manner_of head (capped moment) last) inner after
+  pub whole : Whole settings asked head moment inner d
+  pub answers : Answers settings place asked (manner_of head (capped moment) last) inner after
 
 -- a request, which may be the last of its connection, or why there is none; and what follows
 abbrev pub Turn : Settings → Place → Bool → Doing → Next → Type 0
-Turn settings place last d after =
-    ((end : Ending) × (after ≡ next.Stops end) × NoHead d end)
-    ⊎ (Refusal settings last d after ⊎ (Broken d after ⊎ (Control settings last d after
-    ⊎ Served settings place last d after)))
+Turn settings place last d after = ((end : Ending) × (after ≡ next.Stops end) × NoHead d end)
+    ⊎ (Refusal settings last d after ⊎ (Broken d after ⊎ Served settings place last d after))
+
+-- the same, but for the bytes of the head, which were taken before
+abbrev pub TurnBehind : List ℕ → Settings → Place → Bool → Doing → Next → Type 0
+TurnBehind front settings place last d after = Turn settings place last (record d { bytes = front ++ d.bytes }) after
+
+-- what follows bytes that begin no head
+abbrev pub bad_next : ℕ → Bool → Next
+bad_next taken true = next.Stops ending.WriteFault
+bad_next taken false = next.Stops (ending.BadHead taken)

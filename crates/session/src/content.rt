@@ -1,12 +1,13 @@
 //! Requests for content.
 
-ghost use Rattle.std.specs.Prelude.{◌≡◌, ◌≢◌, ◌≤◌, ◌<◌, false, true, IfSome, None};
+ghost use Rattle.std.specs.Prelude.{◌≡◌, ◌≢◌, ◌≤◌, ◌<◌, false, true, IfOk, IfSome, None};
 ghost use Rattle.cdni_base.specs.declared.date.TheConstants.{DATE_END};
 ghost use Rattle.edge_base.specs.Causes.{Rose};
 ghost use Rattle.session.specs.Answer.{IsConstant, Says};
-ghost use Rattle.session.specs.Course.{Content, Course, Delivers, DeliversFetched, HasGateFault};
+ghost use Rattle.session.specs.Course.{Content, Course, Delivers, DeliversFetched, Follows, HasGateFault};
 ghost use Rattle.session.specs.Doing.{Any, Does, Doing};
 ghost use Rattle.session.specs.Ending.{next_of};
+ghost use Rattle.session.specs.declared.ending.Ending.{Ending};
 ghost use Rattle.session.specs.Open.{BothOpen};
 
 use crate::answer_room::AnswerRoom;
@@ -22,7 +23,7 @@ use edge_base::{Clock, Sink};
 use history::{Call, Reply};
 use location_acl::Place;
 use node_core::Home;
-use std::alloc::Global;
+use std::alloc::{AllocError, Global};
 use std::sync::Wait;
 use std::thread::Threads;
 use upstream_gate::{Gate, Outcome};
@@ -89,13 +90,13 @@ fn deliver<R: Threads + Wait + Sync, H: Home, K: Sink, G: Gate, C: Clock>(
     requires { manner.now.moment < DATE_END }
     ensures who { H.who home.new ≡ H.who home.old }
     ensures stays { H.stays home.old home.new }
-    ensures does { (d : Doing) × (course : Course) × Delivers asked place manner.now course d result
+    ensures does { (d : Doing) × (course : Course) × Follows Refreshed.Ready course × Delivers asked place manner.now course d result
         × HasGateFault (G.faults gate.old) (G.faults gate.new) course × Does (H.who home.old) Any (H.has_seen home.old) (H.has_seen home.new) (C.given clock.old) (C.given clock.new)
             (G.exchanges gate.old) (G.exchanges gate.new) (K.held sink.old) (K.held sink.new) d }
     ensures later { K.faults sink.old ≤ K.faults sink.new }
     ensures write { result ≡ Next.Stops Ending.WriteFault → Rose (K.faults sink.old) (K.faults sink.new) }
 {
-    let Ok(target) = asked.target.clone() else {
+    let Ok(target) = copy_of(&asked.target) else {
         return fall_short(sink);
     };
     let call = Call::Admit {
@@ -138,6 +139,12 @@ fn deliver<R: Threads + Wait + Sync, H: Home, K: Sink, G: Gate, C: Clock>(
     }
 }
 
+fn copy_of(target: &Target) -> Result<Target, AllocError>
+    ensures { IfOk result (λ copy. copy ≡ target.now) }
+{
+    target.clone()
+}
+
 // ends a fetch, and answers with what it brought
 fn deliver_fetched<R: Threads + Wait + Sync, H: Home, K: Sink, C: Clock>(
     rt: &R,
@@ -162,12 +169,18 @@ fn deliver_fetched<R: Threads + Wait + Sync, H: Home, K: Sink, C: Clock>(
 {
     let shown = shared(alloc, &outcome);
     end_fetch(rt, alloc, home, clock, fetch, outcome);
-    let sent = match &shown {
-        Some(shown) => room.show(sink, manner, shown),
-        None => refuse(sink, Constant::Unavailable),
-    };
-    finish(rt, alloc, home, clock, delivery, &sent);
-    next_of(manner.leaves, shown.is_none(), sent.fault)
+    match &shown {
+        Some(shown) => {
+            let sent = room.show(sink, manner, shown);
+            finish(rt, alloc, home, clock, delivery, &sent);
+            next_of(manner.leaves, false, sent.fault)
+        }
+        None => {
+            let sent = refuse(sink, Constant::Unavailable);
+            finish(rt, alloc, home, clock, delivery, &sent);
+            next_of(manner.leaves, true, sent.fault)
+        }
+    }
 }
 
 // the same outcome, whose body is shared; none where it or the sharing found no memory

@@ -1,6 +1,6 @@
 //! Gathering the metadata of the root document (RFC 8006, section 6.3).
 
-ghost use Rattle.std.specs.Prelude.{◌≡◌, ◌≤◌, ◌∷◌, [], List, IfOk};
+ghost use Rattle.std.specs.Prelude.{◌≡◌, ◌≤◌, ◌↔◌, ◌∷◌, [], List, IfOk, IsTrue};
 ghost use Rattle.cdni_base.specs.Key.{key_of};
 ghost use Rattle.edge_base.specs.Causes.{Rose};
 ghost use Rattle.edge_base.specs.Clock.{Grows};
@@ -76,12 +76,18 @@ fn read_tree(alloc: Global, root: &Target, outcome: &Outcome) -> Result<Option<T
         Outcome::Got(got) if got.status() == 200 => {
             match HostIndex::read(alloc, got.body().bytes()) {
                 Ok(index) => Ok(Some(tree_of(alloc, root, index)?)),
-                Err(MetaFault::Memory) => Err(AllocError),
+                Err(fault) if is_memory(&fault) => Err(AllocError),
                 Err(_) => Ok(None),
             }
         }
         _ => Ok(None),
     }
+}
+
+fn is_memory(fault: &MetaFault) -> bool
+    ensures { IsTrue result ↔ (fault.now ≡ MetaFault.Memory) }
+{
+    matches!(fault, MetaFault::Memory)
 }
 
 // the metadata of one document

@@ -8,6 +8,7 @@ mod content;
 mod delivery;
 mod ending;
 mod gathering;
+pub mod law;
 mod manner;
 mod refresh;
 mod request;

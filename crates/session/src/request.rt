@@ -33,6 +33,7 @@ pub(crate) fn read_request(
 }
 
 // the method and the target
+#[tactic(auto, unfolding(crate::specs::Request::asked_of))]
 fn read_asked(alloc: Global, head: &Head, protocol: Protocol) -> Result<Option<Asked>, AllocError>
     ensures { IfOk result (λ asked. asked ≡ asked_of protocol head.now) }
 {
@@ -66,6 +67,7 @@ fn read_target(alloc: Global, head: &Head, secure: bool) -> Result<Option<Target
 }
 
 // how the request is to be answered
+#[tactic(auto, unfolding(crate::specs::Request::manner_of))]
 fn manner_of(head: &Head, moment: Moment, last: bool) -> Manner
     ensures { result ≡ manner_of head.now moment last }
 {
@@ -118,6 +120,7 @@ impl Told for AnyClose {
 }
 
 // whether the connection closes by the request
+#[tactic(auto, unfolding(crate::specs::Request::says_close))]
 fn says_close(head: &Head) -> bool
     ensures { result ≡ says_close head.now }
 {

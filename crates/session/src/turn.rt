@@ -1,12 +1,15 @@
 //! One request of a connection.
 
-ghost use Rattle.std.specs.Prelude.{◌≡◌, ◌≤◌};
+ghost use Rattle.std.specs.Prelude.{◌≡◌, ◌≤◌, ◌<◌, ℕ, List, false, not};
 ghost use Rattle.cdni_base.specs.declared.date.TheConstants.{DATE_END};
 ghost use Rattle.edge_base.specs.Causes.{Rose};
 ghost use Rattle.http_wire.specs.Moves.{Moves};
+ghost use Rattle.http_wire.specs.Head.{Spells};
+ghost use Rattle.session.specs.Answer.{IsConstant, Says};
 ghost use Rattle.session.specs.Doing.{Any, Does, Doing};
+ghost use Rattle.session.specs.Ending.{next_of};
 ghost use Rattle.session.specs.Session.{LeavesNext};
-ghost use Rattle.session.specs.Turn.{Turn};
+ghost use Rattle.session.specs.Turn.{Answers, Turn, TurnBehind, bad_next};
 
 use crate::answer_room::AnswerRoom;
 use crate::clock::read_clock;
@@ -15,6 +18,7 @@ use crate::content::{content, fall_short};
 use crate::ending::{Ending, Next, next_of};
 use crate::manner::Manner;
 use crate::request::read_request;
+use crate::send::Sent;
 use crate::settings::Settings;
 use cdni_base::{Asked, Moment};
 use edge_base::{Clock, Sink, Source};
@@ -50,7 +54,19 @@ pub(crate) fn serve_one<
     inbox: &mut Inbox,
     room: &mut AnswerRoom,
     last: bool,
-) -> Next {
+) -> Next
+    ensures who { H.who home.new ≡ H.who home.old }
+    ensures stays { H.stays home.old home.new }
+    ensures does { (d : Doing) × Turn settings.now place last d result
+        × Moves (S.left source.old) (S.left source.new) inbox.old inbox.new d.bytes
+        × LeavesNext (S.left source.new) inbox.new result
+        × Does (H.who home.old) Any (H.has_seen home.old) (H.has_seen home.new) (C.given clock.old) (C.given clock.new)
+            (G.exchanges gate.old) (G.exchanges gate.new) (K.held sink.old) (K.held sink.new) d }
+    ensures later { K.faults sink.old ≤ K.faults sink.new }
+    ensures write { result ≡ Next.Stops Ending.WriteFault → Rose (K.faults sink.old) (K.faults sink.new) }
+    ensures read_later { S.faults source.old ≤ S.faults source.new }
+    ensures read { result ≡ Next.Stops Ending.ReadFault → Rose (S.faults source.old) (S.faults source.new) }
+{
     match read_head(alloc, source, inbox) {
         HeadRead::Head(head) => serve_head(
             rt, alloc, home, place, source, sink, gate, clock, settings, inbox, room, &head, last,
@@ -70,7 +86,12 @@ pub(crate) fn serve_one<
 }
 
 // answers bytes that begin no head
-fn refuse_head<K: Sink>(sink: &mut K, taken: u64) -> Next {
+fn refuse_head<K: Sink>(sink: &mut K, taken: u64) -> Next
+    ensures says { (sent : Sent) × Says (IsConstant Constant.BadRequest) (K.held sink.old) (K.held sink.new) sent
+        × (result ≡ bad_next taken sent.fault) }
+    ensures later { K.faults sink.old ≤ K.faults sink.new }
+    ensures write { result ≡ Next.Stops Ending.WriteFault → Rose (K.faults sink.old) (K.faults sink.new) }
+{
     let sent = refuse(sink, Constant::BadRequest);
     if sent.fault {
         Next::Stops(Ending::WriteFault)
@@ -94,7 +115,20 @@ fn serve_head<R: Threads + Wait + Sync, H: Home, S: Source, K: Sink, G: Gate, C:
     room: &mut AnswerRoom,
     head: &Head,
     last: bool,
-) -> Next {
+) -> Next
+    ensures who { H.who home.new ≡ H.who home.old }
+    ensures stays { H.stays home.old home.new }
+    ensures does { (front : List ℕ) → Spells front head.now
+        → (d : Doing) × TurnBehind front settings.now place last d result
+        × Moves (S.left source.old) (S.left source.new) inbox.old inbox.new d.bytes
+        × LeavesNext (S.left source.new) inbox.new result
+        × Does (H.who home.old) Any (H.has_seen home.old) (H.has_seen home.new) (C.given clock.old) (C.given clock.new)
+            (G.exchanges gate.old) (G.exchanges gate.new) (K.held sink.old) (K.held sink.new) d }
+    ensures later { K.faults sink.old ≤ K.faults sink.new }
+    ensures write { result ≡ Next.Stops Ending.WriteFault → Rose (K.faults sink.old) (K.faults sink.new) }
+    ensures read_later { S.faults source.old ≤ S.faults source.new }
+    ensures read { result ≡ Next.Stops Ending.ReadFault → Rose (S.faults source.old) (S.faults source.new) }
+{
     let moment = read_clock(clock);
     match read_request(alloc, head, settings.protocol, moment, last) {
         Ok(Some((asked, manner))) => match body_of(alloc, source, inbox, head, BODY_LIMIT) {
@@ -114,7 +148,12 @@ fn serve_head<R: Threads + Wait + Sync, H: Home, S: Source, K: Sink, G: Gate, C:
 }
 
 // answers that the request is refused
-fn refuse_request<K: Sink>(sink: &mut K, which: Constant, last: bool) -> Next {
+fn refuse_request<K: Sink>(sink: &mut K, which: Constant, last: bool) -> Next
+    ensures says { (sent : Sent) × Says (IsConstant which) (K.held sink.old) (K.held sink.new) sent
+        × (result ≡ next_of (not last) false sent.fault) }
+    ensures later { K.faults sink.old ≤ K.faults sink.new }
+    ensures write { result ≡ Next.Stops Ending.WriteFault → Rose (K.faults sink.old) (K.faults sink.new) }
+{
     let sent = refuse(sink, which);
     next_of(!last, false, sent.fault)
 }
@@ -132,7 +171,16 @@ fn serve_whole<R: Threads + Wait + Sync, H: Home, K: Sink, G: Gate, C: Clock>(
     room: &mut AnswerRoom,
     asked: Asked,
     manner: &Manner,
-) -> Next {
+) -> Next
+    requires { manner.now.moment < DATE_END }
+    ensures who { H.who home.new ≡ H.who home.old }
+    ensures stays { H.stays home.old home.new }
+    ensures does { (d : Doing) × Answers settings.now place asked manner.now d result
+        × Does (H.who home.old) Any (H.has_seen home.old) (H.has_seen home.new) (C.given clock.old) (C.given clock.new)
+            (G.exchanges gate.old) (G.exchanges gate.new) (K.held sink.old) (K.held sink.new) d }
+    ensures later { K.faults sink.old ≤ K.faults sink.new }
+    ensures write { result ≡ Next.Stops Ending.WriteFault → Rose (K.faults sink.old) (K.faults sink.new) }
+{
     if asked.target.host == settings.control {
         let sent = room.miss_control(sink, manner);
         return next_of(manner.leaves, false, sent.fault);

@@ -1,5 +1,5 @@
 -- What was written of an answer.
-use Rattle.std.proofs.Common.{◌≡◌, ℕ, ◌+◌, ◌-◌, ◌/◌, ◌^◌, ◌<◌, ◌≤◌, append_assoc, decimal, Bool, true, false, List, [], ◌∷◌, ◌++◌, length, take, drop, refl, sym, ◌∙◌, ap, subst, arith, Some, None, append-nil, length-append}
+use Rattle.std.proofs.Common.{◌≡◌, ℕ, ◌+◌, ◌-◌, ◌/◌, ◌^◌, ◌<◌, ◌≤◌, decimal, Bool, true, false, List, [], ◌∷◌, ◌++◌, length, take, drop, refl, sym, ◌∙◌, ap, subst, arith, Some, None, length-append}
 use Rattle.std.proofs.Math.Seq.{take-append-add, take-length, take-append_seam, drop-append_seam}
 use Rattle.std.proofs.lemmas.Fmt.{length-decimal-le}
 use Rattle.std.proofs.lemmas.List.{length-take-le, take-append-le, take-append-drop}
@@ -12,7 +12,7 @@ use Rattle.answer_head.specs.declared.answer.Location.{Location}
 use Rattle.std.specs.Borrow.{Bor}
 use Rattle.std.specs.Option.{option_map}
 use Rattle.httpdate.specs.declared.date.HttpDate.{HttpDate}
-use Rattle.session.specs.Answer.{Answer, IsSaid, Saying, Says, wire, saying_of, saying_text, kind_in, location_part}
+use Rattle.session.specs.Answer.{Answer, IsSaid, Says, wire, saying_of, saying_text, kind_in, location_part}
 use Rattle.cdni_base.specs.Scratch.{Room, Puts}
 use Rattle.answer_head.specs.declared.answer.TheConstants.{ANSWER_HEAD_MAX}
 use Rattle.httpdate.specs.Date.{unix_secs}
@@ -45,7 +45,7 @@ pub says_head : (Is : Answer → Type 0) (answer : Answer) (held held' : Option 
 says_head Is answer held held' sent t is put within whole part status taken entity =
     let long = length-append answer.head answer.body in
     says_front Is answer held held' sent t is (subst (Appends held held') (sym (take-append-le t answer.head answer.body within)) put) (omega (arith, long, within))
-        (λ f. let w = whole f in omega (arith, long, w.0, w.1)) (λ f. let p = part f in omega (arith, long, p)) status taken (omega (arith, entity, within))
+    (λ f. let w = whole f in omega (arith, long, w.0, w.1)) (λ f. let p = part f in omega (arith, long, p)) status taken (omega (arith, entity, within))
 
 -- of the head, all of it, and then of the body
 pub says_both : (Is : Answer → Type 0) (answer : Answer) (held middle held' : Option (List ℕ)) (sent : Sent) (t u : ℕ) → Is answer → Appends held middle (take t answer.head) → t ≡ length answer.head
@@ -56,7 +56,7 @@ says_both Is answer held middle held' sent t u is first all second within whole 
     let head = subst (Appends held middle) (ap (λ n. take n answer.head) all ∙ take-length answer.head) first in
     let both = subst (Appends held held') (sym (take-append-add answer.head answer.body u)) (Appends-trans held middle held' answer.head (take u answer.body) head second) in
     says_front Is answer held held' sent (length answer.head + u) is both (omega (arith, long, within))
-        (λ f. let w = whole f in omega (arith, long, w)) (λ f. let p = part f in omega (arith, long, p)) status (omega (arith, taken, all)) (omega (arith, entity))
+    (λ f. let w = whole f in omega (arith, long, w)) (λ f. let p = part f in omega (arith, long, p)) status (omega (arith, taken, all)) (omega (arith, entity))
 
 -- of both in one piece
 pub says_joined : (Is : Answer → Type 0) (status : ℕ) (piece : List ℕ) (n : ℕ) (held held' : Option (List ℕ)) (sent : Sent) (t : ℕ) → n ≤ length piece
@@ -65,8 +65,8 @@ pub says_joined : (Is : Answer → Type 0) (status : ℕ) (piece : List ℕ) (n 
 says_joined Is status piece n held held' sent t within is put least whole part same taken entity =
     let joined = take-append-drop n piece in
     says_front Is (record { status = status; head = take n piece; body = drop n piece }) held held' sent t is (subst (λ (p : List ℕ). Appends held held' (take t p)) (sym joined) put)
-        (subst (λ (p : List ℕ). t ≤ length p) (sym joined) least) (λ f. whole f ∙ ap length (sym joined)) (λ f. subst (λ (p : List ℕ). t < length p) (sym joined) (part f))
-        same taken (entity ∙ ap (λ k. t - k) (sym (length-take-le n piece within)))
+    (subst (λ (p : List ℕ). t ≤ length p) (sym joined) least) (λ f. whole f ∙ ap length (sym joined)) (λ f. subst (λ (p : List ℕ). t < length p) (sym joined) (part f))
+    same taken (entity ∙ ap (λ k. t - k) (sym (length-take-le n piece within)))
 
 -- an answer that is one thing is another
 pub says_as : (Is Other : Answer → Type 0) (held held' : Option (List ℕ)) (sent : Sent) → ((answer : Answer) → Is answer → Other answer) → Says Is held held' sent → Says Other held held' sent

@@ -1,5 +1,5 @@
 -- What passes in a request for content.
-use Rattle.std.proofs.Common.{◌≡◌, ◌≢◌, ℕ, ◌-◌, Bool, true, false, List, [], ◌∷◌, ◌++◌, length, refl, sym, ◌∙◌, ap, subst, arith, Some, None, append-nil}
+use Rattle.std.proofs.Common.{◌≡◌, ◌≢◌, ℕ, Bool, true, false, List, [], ◌∷◌, ◌++◌, length, refl, sym, ◌∙◌, ap, subst, arith, Some, None, append-nil}
 use Rattle.std.specs.Io.KnownBytes.{Appends}
 use Rattle.std.specs.declared.option.Option.{Option}
 use Rattle.cdni_base.specs.declared.asked.Asked.{Asked}
@@ -19,13 +19,13 @@ use Rattle.upstream_gate.specs.declared.outcome.Outcome.{Outcome}
 use Rattle.upstream_gate.specs.declared.outcome.Outcome.TheVariants as outcome
 use Rattle.upstream_gate.proofs.PlanLemmas.{grows_none}
 use Rattle.session.specs.Answer.{Answer, Says, IsConstant, Takes}
-use Rattle.session.specs.Content.{IsShown, denied_shown, full_shown, content_shown, brought_shown}
+use Rattle.session.specs.Content.{IsShown, denied_shown, full_shown, content_shown}
 use Rattle.session.specs.Course.{Course, NoRoom, Crowded, Full, Barred, Kept, Brought, Short, finished, course_calls, course_moments, course_exchanges, IsPlanned, IsAnswerOf, is_short, Follows, Delivers, Content, AnswersFetched, DeliversFetched, HasGateFault}
-use Rattle.session.specs.Doing.{Called, Doing, nothing, then, Told, Makes, Any, Does}
+use Rattle.session.specs.Doing.{Called, Doing, nothing, then, Makes, Any, Does}
 use Rattle.session.specs.Ending.{next_of}
 use Rattle.session.specs.Moment.{capped}
 use Rattle.session.specs.Open.{OpenDelivery, OpenFetch, BothOpen}
-use Rattle.session.specs.Refresh.{Refreshing, Refreshes, refresh_calls, refresh_moments, refresh_exchanges, refreshed_by}
+use Rattle.session.specs.Refresh.{Refreshes, refresh_calls, refresh_moments, refresh_exchanges}
 use Rattle.session.specs.declared.constant.Constant.TheVariants as constant
 use Rattle.session.specs.declared.ending.Ending.TheVariants as ending
 use Rattle.session.specs.declared.ending.Next.{Next}
@@ -36,7 +36,7 @@ use Rattle.session.specs.declared.manner.Manner.{Manner}
 use Rattle.session.specs.declared.refresh.Refreshed.{Refreshed}
 use Rattle.session.specs.declared.refresh.Refreshed.TheVariants as refreshed
 use Rattle.session.specs.declared.send.Sent.{Sent}
-use Rattle.session.proofs.DoingLemmas.{does_as, does_asked, does_calls, does_nothing, does_on, does_then, does_written, for_who, told_one, told_none}
+use Rattle.session.proofs.DoingLemmas.{does_calls, does_nothing, does_on, does_then, does_written, for_who, told_one}
 use Rattle.session.proofs.OpenLemmas.{is_opened, stays_open, own_delivery, own_fetch}
 
 -- a call that was answered, and one that was not
@@ -253,10 +253,10 @@ pub missed : (who : Who) (a b c : History → Type 0) (g g' : Option (List ℕ))
     → DeliversFetched manner delivery fetch how d after → (v : Who) → v ≡ who → Does v (BothOpen v delivery fetch) b c g g' None None k k' d
     → Delivered who a c g g' t t' k k' before now asked place manner after
 missed who a b c g g' t t' k k' before now asked place manner delivery fetch plan made how d after planned caused admitted asks f v same does = elim (f.short) as (λ x. f.short ≡ x → Delivered who a c g g' t t' k k' before now asked place manner after) [
-    | true ↦ λ e. missed_with who a b c g g' t t' k k' before now asked place manner delivery fetch plan made how d after (Short delivery fetch plan made how f.ended f.closed f.at f.line) f tt planned (subst (λ x. AnswersFetched manner how x f.answer) e f.answered) tt refl refl (λ taken. refl) (sym e) admitted asks v same does
-    | false ↦ λ e. let answered = subst (λ x. AnswersFetched manner how x f.answer) e f.answered in
-        missed_with who a b c g g' t t' k k' before now asked place manner delivery fetch plan made how d after (Brought delivery fetch plan made how f.ended f.closed f.at f.line) f tt (planned, answered.0) answered.1 caused refl refl (λ taken. refl) (sym e) admitted asks v same does
-  ] refl
+  | true ↦ λ e. missed_with who a b c g g' t t' k k' before now asked place manner delivery fetch plan made how d after (Short delivery fetch plan made how f.ended f.closed f.at f.line) f tt planned (subst (λ x. AnswersFetched manner how x f.answer) e f.answered) tt refl refl (λ taken. refl) (sym e) admitted asks v same does
+  | false ↦ λ e. let answered = subst (λ x. AnswersFetched manner how x f.answer) e f.answered in
+      missed_with who a b c g g' t t' k k' before now asked place manner delivery fetch plan made how d after (Brought delivery fetch plan made how f.ended f.closed f.at f.line) f tt (planned, answered.0) answered.1 caused refl refl (λ taken. refl) (sym e) admitted asks v same does
+] refl
 
 -- ---- a refresh, and then the delivery
 

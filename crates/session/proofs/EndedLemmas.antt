@@ -1,24 +1,21 @@
 -- What is opened in a session is ended in it.
-use Rattle.std.proofs.Common.{◌≡◌, ℕ, ◌+◌, ◌==◌, Bool, true, false, ◌||◌, ◌&&◌, List, [], ◌∷◌, ◌++◌, refl, sym, ◌∙◌, ap, subst, None, Some, inl, inr}
+use Rattle.std.proofs.Common.{◌≡◌, ℕ, ◌+◌, ◌==◌, Bool, true, ◌&&◌, List, [], ◌∷◌, ◌++◌, refl, sym, ◌∙◌, subst, None, Some, inl, inr}
 use Rattle.std.proofs.lemmas.Bool.{eq-eqb, and_from, or_left, or_right}
 use Rattle.std.proofs.lemmas.List.Folds.{list_any-append}
 use Rattle.std.proofs.lemmas.Option.{none-some, same_Some}
-use Rattle.std.specs.List.{list_any}
-use Rattle.std.specs.declared.option.Option.{Option}
 use Rattle.cdni_base.specs.declared.asked.Asked.{Asked}
-use Rattle.history.specs.After.{begun_delivery, begun_fetch}
-use Rattle.history.specs.Event.{Entry, Event, Admit, FetchEnd, Finish, RefreshBegin, RefreshEnd}
+use Rattle.history.specs.Event.{Entry, Event, Admit, FetchEnd, RefreshBegin, RefreshEnd}
 use Rattle.history.specs.Laws.{ends_delivery, ends_fetch, ends_refresh}
 use Rattle.history.specs.declared.reply.Reply.{Reply}
 use Rattle.history.specs.declared.reply.Reply.TheVariants as reply
 use Rattle.location_acl.specs.declared.footprint.Place.{Place}
 use Rattle.session.specs.Answer.{Answer}
-use Rattle.session.specs.Course.{Course, NoRoom, Crowded, Full, Barred, Kept, Brought, Short, Content, course_calls, finished}
-use Rattle.session.specs.Doing.{Called, Doing, nothing, then}
+use Rattle.session.specs.Course.{Course, NoRoom, Crowded, Full, Barred, Kept, Brought, Short, course_calls, finished}
+use Rattle.session.specs.Doing.{Called, Doing, then}
 use Rattle.session.specs.Ended.{AllEnded, EndsLater, IsEndedIn, opened_delivery, opened_fetch, opened_refresh}
 use Rattle.session.specs.Moment.{capped}
 use Rattle.session.specs.Refresh.{Refreshing, NoBegin, NotDue, Crowded as Thronged, Gathered, Ungathered, refresh_calls}
-use Rattle.session.specs.Session.{Runs, Session}
+use Rattle.session.specs.Session.{Runs}
 use Rattle.session.specs.Turn.{Turn}
 use Rattle.session.specs.declared.ending.Ending.{Ending}
 use Rattle.session.specs.declared.ending.Next.{Next}

@@ -1,5 +1,5 @@
 -- The metadata that an outcome brings.
-use Rattle.std.proofs.Common.{◌≡◌, ◌≢◌, ℕ, ◌==◌, true, List, [], ◌∷◌, refl, sym, ◌∙◌, ap, subst, cond, Some, None, Ok, Err, Option, Result, IfOk}
+use Rattle.std.proofs.Common.{◌≡◌, ◌≢◌, ℕ, ◌==◌, List, [], ◌∷◌, refl, sym, ◌∙◌, ap, subst, cond, Some, None, Ok, Err, Option, Result, IfOk}
 use Rattle.std.specs.Option.{option_map}
 use Rattle.std.specs.Result.{result_ok}
 use Rattle.std.specs.declared.alloc.AllocError.{AllocError}

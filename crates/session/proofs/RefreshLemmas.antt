@@ -1,6 +1,5 @@
 -- What passes in a refresh.
-use Rattle.std.proofs.Common.{◌≡◌, ℕ, List, [], ◌∷◌, ◌++◌, refl, sym, ◌∙◌, ap, subst, Some, None, Option}
-use Rattle.std.proofs.lemmas.List.{append-nil}
+use Rattle.std.proofs.Common.{◌≡◌, ℕ, List, [], ◌∷◌, refl, sym, subst, None, Option}
 use Rattle.edge_base.specs.Clock.{Grows}
 use Rattle.history.specs.After.{begun_refresh}
 use Rattle.history.specs.Event.{History, RefreshBegin, RefreshEnd}
@@ -12,12 +11,12 @@ use Rattle.node_core.specs.Home.{Who}
 use Rattle.targets.specs.declared.target.Target.{Target}
 use Rattle.upstream_gate.specs.Outcome.{Exchange}
 use Rattle.upstream_gate.proofs.PlanLemmas.{grows_none}
-use Rattle.session.specs.Doing.{Called, Doing, nothing, then, Told, Makes, Any, Does}
+use Rattle.session.specs.Doing.{Called, Doing, nothing, Makes, Any, Does}
 use Rattle.session.specs.Moment.{capped}
 use Rattle.session.specs.Open.{OpenRefresh}
-use Rattle.session.specs.Refresh.{Refreshing, NoBegin, NotDue, Crowded, Gathered, Ungathered, IsGathered, Refreshes, refresh_calls, refresh_moments, refresh_exchanges, refreshed_by}
+use Rattle.session.specs.Refresh.{Refreshing, Gathered, Ungathered, IsGathered, Refreshes, refresh_calls, refresh_moments, refresh_exchanges, refreshed_by}
 use Rattle.session.specs.declared.refresh.Refreshed.{Refreshed}
-use Rattle.session.proofs.DoingLemmas.{does_nothing, does_then, for_who}
+use Rattle.session.proofs.DoingLemmas.{does_then, for_who}
 use Rattle.session.proofs.OpenLemmas.{is_opened, own_refresh}
 
 -- what is told of a refresh
@@ -43,8 +42,8 @@ begun who a b c g g' t t' root moment refresh made tree at line how moments exch
     let first : Called = (RefreshBegin moment, reply.Due refresh) in
     let second : Called = (RefreshEnd refresh tree (capped at), line) in
     let both : Makes who Any a c (first ∷ second ∷ []) = (does_then who Any (OpenRefresh who refresh) a b c None None None None None None None None None (record nothing { calls = first ∷ [] }) (record nothing { calls = second ∷ [] })
-        (record { moments = tt; exchanges = tt; written = tt; calls = begins }) (record { moments = tt; exchanges = tt; written = tt; calls = ends })
-        (λ h last need told. is_opened begun_refresh ends_refresh own_refresh who refresh first h last refl told)).calls in (
+    (record { moments = tt; exchanges = tt; written = tt; calls = begins }) (record { moments = tt; exchanges = tt; written = tt; calls = ends })
+    (λ h last need told. is_opened begun_refresh ends_refresh own_refresh who refresh first h last refl told)).calls in (
       record { bytes = []; moments = refresh_moments how; exchanges = refresh_exchanges how; written = []; calls = refresh_calls moment how },
       record { how = how; gathered = gathered; is = refl; result_is = refl },
       record { moments = subst (Grows g g') (sym moments) read; exchanges = subst (Grows t t') (sym exchanges) asks; written = tt; calls = subst (Makes who Any a c) (sym calls) both },

@@ -1,23 +1,20 @@
 -- One turn after the other.
-use Rattle.std.proofs.Common.{◌≡◌, ℕ, ◌+◌, ◌-◌, ◌<◌, ◌≤◌, ◌==◌, Bool, true, false, List, [], ◌∷◌, ◌++◌, length, refl, sym, ◌∙◌, ap, subst, Option, append-nil, inl, inr}
+use Rattle.std.proofs.Common.{◌≡◌, ℕ, ◌+◌, ◌-◌, ◌==◌, Bool, true, false, List, [], ◌∷◌, ◌++◌, refl, sym, subst, Option}
 use Rattle.std.specs.Io.KnownBytes.{Consumes}
-use Rattle.std.proofs.KnownBytes.{Consumes-nil}
 use Rattle.history.specs.Event.{History}
 use Rattle.http_wire.specs.Moves.{Moves}
 use Rattle.http_wire.proofs.MoveLemmas.{moves_nothing, moves_then}
 use Rattle.location_acl.specs.declared.footprint.Place.{Place}
 use Rattle.node_core.specs.Home.{Who}
 use Rattle.upstream_gate.specs.Outcome.{Exchange}
-use Rattle.upstream_gate.proofs.PlanLemmas.{grows_none}
 use Rattle.session.specs.Answer.{Says, IsConstant}
 use Rattle.session.specs.Doing.{Doing, nothing, then, Any, Does}
 use Rattle.session.specs.Ending.{next_of}
-use Rattle.session.specs.Session.{Runs, Session, Leaves, LeavesNext}
+use Rattle.session.specs.Session.{Runs, Session, Leaves}
 use Rattle.session.specs.Turn.{Turn}
 use Rattle.session.specs.declared.constant.Constant.TheVariants as constant
 use Rattle.session.specs.declared.ending.Ending.{Ending}
 use Rattle.session.specs.declared.ending.Ending.TheVariants as ending
-use Rattle.session.specs.declared.ending.Next.{Next}
 use Rattle.session.specs.declared.ending.Next.TheVariants as next
 use Rattle.session.specs.declared.send.Sent.{Sent}
 use Rattle.session.specs.declared.serve.TheConstants.{TURNS_MAX}
@@ -48,11 +45,11 @@ unfolding Runs
 goes_on settings place n last who a b c g g' g'' t t' t'' k k' k'' left left' left'' inbox inbox' so is v same there =
     let turn = subst (λ (x : Who). Turned x b c g' g'' t' t'' k' k'' left' left'' inbox inbox' settings place last next.GoesOn) same there in
     record {
-  done = then so.done turn.0;
-  runs = λ turns end all r. so.runs (turn.0 ∷ turns) end all (next.GoesOn, subst (λ (x : Bool). Turn settings place x turn.0 next.GoesOn) is turn.1, r);
-  moves = moves_then left left' left'' [] inbox inbox' so.done.bytes turn.0.bytes so.moves turn.2;
-  does = does_on who Any a b c g g' g'' t t' t'' k k' k'' so.done turn.0 so.does turn.4;
-}
+      done = then so.done turn.0;
+      runs = λ turns end all r. so.runs (turn.0 ∷ turns) end all (next.GoesOn, subst (λ (x : Bool). Turn settings place x turn.0 next.GoesOn) is turn.1, r);
+      moves = moves_then left left' left'' [] inbox inbox' so.done.bytes turn.0.bytes so.moves turn.2;
+      does = does_on who Any a b c g g' g'' t t' t'' k k' k'' so.done turn.0 so.does turn.4;
+    }
 
 -- what is told of a whole session
 abbrev pub Ends : Settings → Place → Who → (History → Type 0) → (History → Type 0) → Option (List ℕ) → Option (List ℕ) → Option (List Exchange) → Option (List Exchange) → Option (List ℕ) → Option (List ℕ) → Option (List ℕ) → Option (List ℕ) → Ending → Type 0
@@ -84,4 +81,4 @@ pub no_room : (settings : Settings) (place : Place) (who : Who) (a : History →
     → Says (IsConstant constant.Unavailable) k k' sent → next.Stops end ≡ next_of false true sent.fault → Ends settings place who a a g g t t k k' left left end
 no_room settings place who a g t k k' left sent end s goes =
     stops settings place 0 false who a a a g g g t t t k k k' left left left [] [] end (begins settings place who a g t k left [] refl) refl who refl
-        (short_of_head who a g t k k' sent left left [] [] settings place false (next.Stops end) s goes (moves_nothing left []))
+    (short_of_head who a g t k k' sent left left [] [] settings place false (next.Stops end) s goes (moves_nothing left []))

@@ -14,7 +14,7 @@ use Rattle.http_wire.specs.declared.body.BodyRead.TheVariants as body
 use Rattle.http_wire.specs.declared.body.Framing.{Framing}
 use Rattle.http_wire.specs.Head.{HasNoHead, HeadParts, IsHopelessHead, Spells}
 use Rattle.http_wire.specs.Moves.{Moves}
-use Rattle.http_wire.specs.Reading.{IsBadHead, IsCutShort}
+use Rattle.http_wire.specs.Reading.{IsBadHead}
 use Rattle.http_wire.specs.declared.body.Framing.TheVariants as framing
 use Rattle.http_wire.proofs.MoveLemmas.{moves_kept, moves_nothing, moves_then}
 use Rattle.httparse.specs.Grammar.{MayBecomeRequest}
@@ -23,15 +23,15 @@ use Rattle.node_core.specs.Home.{Who}
 use Rattle.targets.specs.declared.target.Protocol.{Protocol}
 use Rattle.upstream_gate.specs.Outcome.{Exchange}
 use Rattle.upstream_gate.proofs.PlanLemmas.{grows_none, grows_on}
-use Rattle.session.specs.Answer.{Answer, Says, IsConstant, Takes}
+use Rattle.session.specs.Answer.{Answer, Says, IsConstant}
 use Rattle.session.specs.Content.{IsShown, absent_shown}
 use Rattle.session.specs.Course.{Content, is_short}
-use Rattle.session.specs.Doing.{Doing, nothing, then, Any, Does}
+use Rattle.session.specs.Doing.{Doing, nothing, Any, Does}
 use Rattle.session.specs.Ending.{next_of}
 use Rattle.session.specs.Moment.{capped}
 use Rattle.session.specs.Request.{asked_of, manner_of, read_of}
 use Rattle.session.specs.Session.{LeavesNext}
-use Rattle.session.specs.Turn.{Turn, TurnBehind, NoHead, HasNoRequest, Refusal, IsRefused, IsRefusedBody, Broken, BreaksOff, Served, Answers, Absent, IsControl, Writes, bad_next}
+use Rattle.session.specs.Turn.{Turn, TurnBehind, HasNoRequest, IsRefused, IsRefusedBody, BreaksOff, Answers, IsControl, Writes, bad_next}
 use Rattle.session.specs.declared.constant.Constant.{Constant}
 use Rattle.session.specs.declared.constant.Constant.TheVariants as constant
 use Rattle.session.specs.declared.ending.Ending.{Ending}

@@ -1,9 +1,8 @@
 -- What is answered to a request for content.
-use Rattle.std.specs.Prelude.{◌≡◌, ℕ, ◌+◌, ◌-◌, Bool, true, false, List, [], ◌++◌, length, codes, decimal, slice_range, None, Some, ◌==◌, if◌then◌else◌}
+use Rattle.std.specs.Prelude.{ℕ, ◌+◌, ◌-◌, true, false, List, [], ◌++◌, length, codes, decimal, slice_range, None, Some, ◌==◌, if◌then◌else◌}
 use Rattle.std.specs.declared.option.Option.{Option}
 use Rattle.answer_head.specs.declared.answer.Allow.{Allow}
 use Rattle.answer_head.specs.declared.answer.Allow.TheVariants as allow
-use Rattle.answer_head.specs.declared.answer.ContentRange.{ContentRange}
 use Rattle.answer_head.specs.declared.answer.ContentRange.TheVariants as range
 use Rattle.byte_range.specs.Span.{span_of}
 use Rattle.byte_range.specs.declared.span.Span.{Span}
@@ -66,11 +65,13 @@ full_shown manner count = line_shown manner 503 (codes "full " ++ decimal count)
 abbrev pub part_shown : Manner → List ℕ → List ℕ → Span → Shown
 part_shown manner kind body span.Whole =
     (record (saying manner 200 kind (length body)) { ranges = true }, body)
-part_shown manner kind body (span.Part first last) =
-    (record (saying manner 206 kind (last - first + 1)) {
-      ranges = true;
-      range = Some (range.Part first last (length body));
-    }, slice_range body first (last + 1))
+part_shown manner kind body (span.Part first last) = (
+  record (saying manner 206 kind (last - first + 1)) {
+    ranges = true;
+    range = Some (range.Part first last (length body));
+  },
+  slice_range body first (last + 1),
+)
 part_shown manner kind body span.Unsatisfiable =
     (record (saying manner 416 [] 0) { range = Some (range.None (length body)) }, [])
 

@@ -1,5 +1,5 @@
 -- Gathering the metadata of the root document (RFC 8006, section 6.3). Links are not followed.
-use Rattle.std.specs.Prelude.{◌≡◌, ◌≢◌, ℕ, Bool, List, [], ◌∷◌, None, Some, Ok, Err, ◌==◌, if◌then◌else◌}
+use Rattle.std.specs.Prelude.{◌≡◌, ◌≢◌, ℕ, List, [], ◌∷◌, None, Some, Ok, Err, ◌==◌, if◌then◌else◌}
 use Rattle.std.specs.Option.{option_map}
 use Rattle.std.specs.Result.{result_ok}
 use Rattle.std.specs.declared.option.Option.{Option}
@@ -13,7 +13,6 @@ use Rattle.metadata_objects.specs.declared.tree.Tree.{Tree}
 use Rattle.targets.specs.declared.endpoint.Endpoint.{Endpoint}
 use Rattle.targets.specs.declared.target.Target.{Target}
 use Rattle.targets.specs.declared.target.TheConstants.{HTTP_PORT}
-use Rattle.upstream_gate.specs.Got.{GotParts}
 use Rattle.upstream_gate.specs.Outcome.{Exchange}
 use Rattle.upstream_gate.specs.Plan.{origin_form, Asked}
 use Rattle.upstream_gate.specs.declared.outcome.Outcome.{Outcome}

@@ -1,5 +1,5 @@
 -- A refresh of the metadata before a request (RFC 8006, section 6.3).
-use Rattle.std.specs.Prelude.{◌≡◌, ℕ, List, [], ◌∷◌, None, Some}
+use Rattle.std.specs.Prelude.{◌≡◌, ℕ, List, [], ◌∷◌, None}
 use Rattle.std.specs.declared.option.Option.{Option}
 use Rattle.history.specs.Event.{RefreshBegin, RefreshEnd}
 use Rattle.history.specs.declared.reply.Reply.{Reply}

@@ -34,7 +34,7 @@ target_in secure text (host ∷ other ∷ hosts) = None
 unfoldable pub asked_of : Protocol → HeadParts → Option Asked
 asked_of over head = if nat_lt METHOD_MAX (length head.method) then None
     else option_map (λ target. record { method = head.method; protocol = over; target = target })
-        (target_in (is_secure over) head.target (values_of (codes "host") head.headers))
+    (target_in (is_secure over) head.target (values_of (codes "host") head.headers))
 
 -- one Range asks for a part, where no If-Range stands beside it (RFC 9110, section 13.1.5)
 abbrev pub want_in : List (List ℕ) → List (List ℕ) → Want

@@ -3,9 +3,8 @@ use Rattle.std.specs.Prelude.{◌≡◌, ℕ, ◌+◌, ◌-◌, List, [], ◌∷
 use Rattle.std.specs.declared.option.Option.{Option}
 use Rattle.std.specs.Io.KnownBytes.{IsAtEnd}
 use Rattle.location_acl.specs.declared.footprint.Place.{Place}
-use Rattle.session.specs.Answer.{Answer}
 use Rattle.session.specs.Doing.{Doing, nothing, then}
-use Rattle.session.specs.Turn.{NoHead, Turn}
+use Rattle.session.specs.Turn.{Turn}
 use Rattle.session.specs.declared.ending.Ending.{Ending}
 use Rattle.session.specs.declared.ending.Ending.TheVariants as ending
 use Rattle.session.specs.declared.ending.Next.{Next}
@@ -23,7 +22,7 @@ unfoldable pub Runs : Settings → Place → ℕ → Doing → List Doing → En
 Runs settings place n done [] end all = (n ≡ TURNS_MAX) × (end ≡ ending.Turns) × (all ≡ done)
 Runs settings place n done (d ∷ ds) end all = (after : Next) × Turn settings place (n == TURNS_MAX - 1) d after
     × Goes after (Runs settings place (n + 1) (then done d) ds end all)
-        (λ last. (ds ≡ []) × (end ≡ last) × (all ≡ then done d))
+    (λ last. (ds ≡ []) × (end ≡ last) × (all ≡ then done d))
 
 -- what is done in a session that ends so: its turns; or it had no room for them
 abbrev pub Session : Settings → Place → Doing → Ending → Type 0

@@ -261,7 +261,14 @@ fn show_got<K: Sink>(sink: &mut K, scratch: &mut Scratch, manner: &Manner, got: 
     if got.status() == 200 {
         return give_content(sink, scratch, manner, got.kind(), got.body().bytes());
     }
-    say_whole(sink, scratch, manner, got.status(), got.kind(), got.body().bytes())
+    say_whole(
+        sink,
+        scratch,
+        manner,
+        got.status(),
+        got.kind(),
+        got.body().bytes(),
+    )
 }
 
 // writes content, or the part of it that is asked for
@@ -288,7 +295,15 @@ fn give_content<K: Sink>(
     match resolve(manner.want, body.len() as u64) {
         Span::Whole => say(sink, scratch, &head, body),
         Span::Part { first, last } => {
-            give_part(sink, scratch, manner, kind, body, first as usize, last as usize)
+            give_part(
+                sink,
+                scratch,
+                manner,
+                kind,
+                body,
+                first as usize,
+                last as usize,
+            )
         }
         Span::Unsatisfiable => refuse_range(sink, scratch, manner, body.len() as u64),
     }

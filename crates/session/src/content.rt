@@ -47,13 +47,15 @@ pub(crate) fn content<R: Threads + Wait + Sync, H: Home, K: Sink, G: Gate, C: Cl
     ensures stays { H.stays home.old home.new }
     ensures does { (d : Doing) × (content : Content root.now asked place manner.now d result)
         × HasGateFault (G.faults gate.old) (G.faults gate.new) content.course × Does (H.who home.old) Any (H.has_seen home.old) (H.has_seen home.new) (C.given clock.old) (C.given clock.new)
-            (G.exchanges gate.old) (G.exchanges gate.new) (K.held sink.old) (K.held sink.new) d }
+        (G.exchanges gate.old) (G.exchanges gate.new) (K.held sink.old) (K.held sink.new) d }
     ensures later { K.faults sink.old ≤ K.faults sink.new }
     ensures write { result ≡ Next.Stops Ending.WriteFault → Rose (K.faults sink.old) (K.faults sink.new) }
 {
     match refresh(rt, alloc, home, gate, clock, root, manner.moment) {
         Refreshed::Ready => {
-            deliver(rt, alloc, home, sink, gate, clock, place, room, asked, manner)
+            deliver(
+                rt, alloc, home, sink, gate, clock, place, room, asked, manner,
+            )
         }
         Refreshed::Full(count) => {
             let sent = room.turn_away(sink, manner, count);
@@ -92,7 +94,7 @@ fn deliver<R: Threads + Wait + Sync, H: Home, K: Sink, G: Gate, C: Clock>(
     ensures stays { H.stays home.old home.new }
     ensures does { (d : Doing) × (course : Course) × Follows Refreshed.Ready course × Delivers asked place manner.now course d result
         × HasGateFault (G.faults gate.old) (G.faults gate.new) course × Does (H.who home.old) Any (H.has_seen home.old) (H.has_seen home.new) (C.given clock.old) (C.given clock.new)
-            (G.exchanges gate.old) (G.exchanges gate.new) (K.held sink.old) (K.held sink.new) d }
+        (G.exchanges gate.old) (G.exchanges gate.new) (K.held sink.old) (K.held sink.new) d }
     ensures later { K.faults sink.old ≤ K.faults sink.new }
     ensures write { result ≡ Next.Stops Ending.WriteFault → Rose (K.faults sink.old) (K.faults sink.new) }
 {
@@ -110,21 +112,25 @@ fn deliver<R: Threads + Wait + Sync, H: Home, K: Sink, G: Gate, C: Clock>(
             finish(rt, alloc, home, clock, delivery, &sent);
             next_of(manner.leaves, false, sent.fault)
         }
-        Ok(Reply::Hit {
-            delivery,
-            fetch: _,
-            kind,
-            body,
-        }) => {
+        Ok(
+            Reply::Hit {
+                delivery,
+                fetch: _,
+                kind,
+                body,
+            },
+        ) => {
             let sent = room.give(sink, manner, &kind, body.bytes());
             finish(rt, alloc, home, clock, delivery, &sent);
             next_of(manner.leaves, false, sent.fault)
         }
-        Ok(Reply::Miss {
-            delivery,
-            fetch,
-            plan,
-        }) => {
+        Ok(
+            Reply::Miss {
+                delivery,
+                fetch,
+                plan,
+            },
+        ) => {
             let outcome = ask(alloc, gate, &plan, &target);
             deliver_fetched(
                 rt, alloc, home, sink, clock, room, manner, delivery, fetch, outcome,
@@ -163,7 +169,7 @@ fn deliver_fetched<R: Threads + Wait + Sync, H: Home, K: Sink, C: Clock>(
     ensures stays { H.stays home.old home.new }
     ensures does { (d : Doing) × DeliversFetched manner.now delivery fetch outcome d result
         × Does (H.who home.old) (BothOpen (H.who home.old) delivery fetch) (H.has_seen home.old) (H.has_seen home.new)
-            (C.given clock.old) (C.given clock.new) None None (K.held sink.old) (K.held sink.new) d }
+        (C.given clock.old) (C.given clock.new) None None (K.held sink.old) (K.held sink.new) d }
     ensures later { K.faults sink.old ≤ K.faults sink.new }
     ensures write { result ≡ Next.Stops Ending.WriteFault → Rose (K.faults sink.old) (K.faults sink.new) }
 {

@@ -50,7 +50,7 @@ pub(crate) fn refresh<R: Threads + Wait + Sync, H: Home, G: Gate, C: Clock>(
     ensures later { G.faults gate.old ≤ G.faults gate.new }
     ensures does { (d : Doing) × Refreshes root.now moment d result
         × Does (H.who home.old) Any (H.has_seen home.old) (H.has_seen home.new) (C.given clock.old) (C.given clock.new)
-            (G.exchanges gate.old) (G.exchanges gate.new) None None d }
+        (G.exchanges gate.old) (G.exchanges gate.new) None None d }
 {
     match home.call(rt, alloc, Call::RefreshBegin { moment }) {
         Ok(Reply::NotDue { next: _ }) => Refreshed::Ready,

@@ -35,14 +35,7 @@ pub const TURNS_MAX: u64 = 1000;
 /// * `ReadFault`, `WriteFault`: only where that object's count of faults rose; the first fault ends the session.
 /// * `Turns`: exactly where 1,000 requests were answered.
 /// * `Memory`: want of memory.
-pub fn serve_session<
-    R: Threads + Wait + Sync,
-    H: Home,
-    S: Source,
-    K: Sink,
-    G: Gate,
-    C: Clock,
->(
+pub fn serve_session<R: Threads + Wait + Sync, H: Home, S: Source, K: Sink, G: Gate, C: Clock>(
     rt: &R,
     alloc: Global,
     home: &mut H,
@@ -59,7 +52,7 @@ pub fn serve_session<
         × Consumes (S.left source.old) (S.left source.new) (d.bytes ++ rest)
         × Leaves (S.left source.new) rest result
         × Does (H.who home.old) Any (H.has_seen home.old) (H.has_seen home.new) (C.given clock.old) (C.given clock.new)
-            (G.exchanges gate.old) (G.exchanges gate.new) (K.held sink.old) (K.held sink.new) d }
+        (G.exchanges gate.old) (G.exchanges gate.new) (K.held sink.old) (K.held sink.new) d }
     ensures law { (h : History) → H.has_seen home.new h → KeepsTheLaw (H.who home.new).made h }
     ensures write_later { K.faults sink.old ≤ K.faults sink.new }
     ensures write { result ≡ Ending.WriteFault → Rose (K.faults sink.old) (K.faults sink.new) }

@@ -34,14 +34,7 @@ use upstream_gate::Gate;
 pub const BODY_LIMIT: u64 = 1_048_576;
 
 // reads the next request and answers it
-pub(crate) fn serve_one<
-    R: Threads + Wait + Sync,
-    H: Home,
-    S: Source,
-    K: Sink,
-    G: Gate,
-    C: Clock,
->(
+pub(crate) fn serve_one<R: Threads + Wait + Sync, H: Home, S: Source, K: Sink, G: Gate, C: Clock>(
     rt: &R,
     alloc: Global,
     home: &mut H,
@@ -61,7 +54,7 @@ pub(crate) fn serve_one<
         × Moves (S.left source.old) (S.left source.new) inbox.old inbox.new d.bytes
         × LeavesNext (S.left source.new) inbox.new result
         × Does (H.who home.old) Any (H.has_seen home.old) (H.has_seen home.new) (C.given clock.old) (C.given clock.new)
-            (G.exchanges gate.old) (G.exchanges gate.new) (K.held sink.old) (K.held sink.new) d }
+        (G.exchanges gate.old) (G.exchanges gate.new) (K.held sink.old) (K.held sink.new) d }
     ensures later { K.faults sink.old ≤ K.faults sink.new }
     ensures write { result ≡ Next.Stops Ending.WriteFault → Rose (K.faults sink.old) (K.faults sink.new) }
     ensures read_later { S.faults source.old ≤ S.faults source.new }
@@ -123,7 +116,7 @@ fn serve_head<R: Threads + Wait + Sync, H: Home, S: Source, K: Sink, G: Gate, C:
         × Moves (S.left source.old) (S.left source.new) inbox.old inbox.new d.bytes
         × LeavesNext (S.left source.new) inbox.new result
         × Does (H.who home.old) Any (H.has_seen home.old) (H.has_seen home.new) (C.given clock.old) (C.given clock.new)
-            (G.exchanges gate.old) (G.exchanges gate.new) (K.held sink.old) (K.held sink.new) d }
+        (G.exchanges gate.old) (G.exchanges gate.new) (K.held sink.old) (K.held sink.new) d }
     ensures later { K.faults sink.old ≤ K.faults sink.new }
     ensures write { result ≡ Next.Stops Ending.WriteFault → Rose (K.faults sink.old) (K.faults sink.new) }
     ensures read_later { S.faults source.old ≤ S.faults source.new }
@@ -177,7 +170,7 @@ fn serve_whole<R: Threads + Wait + Sync, H: Home, K: Sink, G: Gate, C: Clock>(
     ensures stays { H.stays home.old home.new }
     ensures does { (d : Doing) × Answers settings.now place asked manner.now d result
         × Does (H.who home.old) Any (H.has_seen home.old) (H.has_seen home.new) (C.given clock.old) (C.given clock.new)
-            (G.exchanges gate.old) (G.exchanges gate.new) (K.held sink.old) (K.held sink.new) d }
+        (G.exchanges gate.old) (G.exchanges gate.new) (K.held sink.old) (K.held sink.new) d }
     ensures later { K.faults sink.old ≤ K.faults sink.new }
     ensures write { result ≡ Next.Stops Ending.WriteFault → Rose (K.faults sink.old) (K.faults sink.new) }
 {
@@ -186,6 +179,16 @@ fn serve_whole<R: Threads + Wait + Sync, H: Home, K: Sink, G: Gate, C: Clock>(
         return next_of(manner.leaves, false, sent.fault);
     }
     content(
-        rt, alloc, home, sink, gate, clock, &settings.root, place, room, asked, manner,
+        rt,
+        alloc,
+        home,
+        sink,
+        gate,
+        clock,
+        &settings.root,
+        place,
+        room,
+        asked,
+        manner,
     )
 }

@@ -1,8 +1,7 @@
 //! A case: a node, a gate and a clock, and connections.
 
-use crate::connection;
-use crate::field;
 use crate::telling::{TellingGate, TellingHome};
+use crate::{connection, field};
 use anyhow::bail;
 use cdni_base::{Body, Endpoint, Limits, Protocol, ProviderId, Target, TypeName};
 use edge_base::ListClock;
@@ -73,7 +72,7 @@ fn outcome_of(alloc: Global, value: &Value) -> anyhow::Result<Outcome> {
     })
 }
 
-fn gate_of(alloc: Global, case: &Value) -> anyhow::Result<TellingGate> {
+fn gate_of(alloc: Global, case: &Value) -> anyhow::Result<TellingGate<MemoryGate>> {
     let mut outcomes = OutcomeList::new(alloc);
     for value in field::list(case, "outcomes")? {
         outcomes.push(outcome_of(alloc, value)?)?;
@@ -109,7 +108,7 @@ fn settings_of(alloc: Global, value: &Value) -> anyhow::Result<Settings> {
     })
 }
 
-fn home_of(alloc: Global, case: &Value) -> anyhow::Result<TellingHome> {
+fn home_of(alloc: Global, case: &Value) -> anyhow::Result<TellingHome<OneHome>> {
     let limits = limits_of(field::get(case, "limits")?)?;
     let node = Node::new(alloc, &limits, field::text_of(alloc, case, "origin")?)?;
     Ok(TellingHome {
@@ -123,7 +122,7 @@ fn home_of(alloc: Global, case: &Value) -> anyhow::Result<TellingHome> {
 fn cuts_otherwise<R: Threads + Wait + Sync>(
     rt: &R,
     alloc: Global,
-    home: &mut TellingHome,
+    home: &mut TellingHome<OneHome>,
     case: &Value,
 ) -> anyhow::Result<bool> {
     let cut = field::get(case, "cut")?;

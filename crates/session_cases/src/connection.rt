@@ -6,11 +6,13 @@ use crate::told::{told_asks, told_calls};
 use anyhow::bail;
 use edge_base::{ListClock, MemorySink, MemorySource};
 use location_acl::{Ip, Place};
+use node_core::OneHome;
 use serde_json::Value;
 use session::{Ending, Peer, Settings, serve_session};
 use std::alloc::Global;
 use std::sync::Wait;
 use std::thread::Threads;
+use upstream_gate::MemoryGate;
 
 // The place of the client.
 fn place_of(value: &Value) -> anyhow::Result<Place> {
@@ -59,8 +61,8 @@ fn is_ending(value: &Value, ending: Ending) -> anyhow::Result<bool> {
 pub fn differs<R: Threads + Wait + Sync>(
     rt: &R,
     alloc: Global,
-    home: &mut TellingHome,
-    gate: &mut TellingGate,
+    home: &mut TellingHome<OneHome>,
+    gate: &mut TellingGate<MemoryGate>,
     clock: &mut ListClock,
     settings: &Settings,
     value: &Value,

@@ -2,33 +2,30 @@
 
 use crate::told::{put_ask, put_call, put_reply};
 use history::{Call, Reply};
-use node_core::{Home, OneHome};
+use node_core::Home;
 use std::alloc::{AllocError, Global};
 use std::sync::Wait;
 use std::thread::Threads;
-use upstream_gate::{Ask, Gate, MemoryGate, Outcome};
+use upstream_gate::{Ask, Gate, Outcome};
 
-/// A home over a node of its own that writes its calls with their replies down, a line for each.
+/// A home that writes its calls with their replies down, a line for each.
 #[derive(Drop)]
-pub struct TellingHome {
-    pub home: OneHome,
+pub struct TellingHome<H: Home> {
+    pub home: H,
     pub lines: Vec<u8>,
     pub is_whole: bool,
 }
 
-impl Home for TellingHome {
-    ghost use Rattle.std.specs.Prelude.{◌≡◌};
-    ghost use Rattle.node_core.specs.contracts.home.OneHome as one;
+impl<H: Home> Home for TellingHome<H> {
+    ghost who = { λ s. H.who s.home };
 
-    ghost who = { λ s. one.Home.who s.home };
+    ghost has_seen = { λ s h. H.has_seen s.home h };
 
-    ghost has_seen = { λ s h. one.Home.has_seen s.home h };
+    ghost stays = { λ a b. H.stays a.home b.home };
 
-    ghost stays = { λ a b. one.Home.stays a.home b.home };
+    ghost stays_at = { λ a. H.stays_at a.home };
 
-    ghost stays_at = { λ a. one.Home.stays_at a.home };
-
-    ghost stays_on = { λ a b c p q. one.Home.stays_on a.home b.home c.home p q };
+    ghost stays_on = { λ a b c p q. H.stays_on a.home b.home c.home p q };
 
     fn call<R: Threads + Wait + Sync>(
         &mut self,
@@ -47,20 +44,18 @@ impl Home for TellingHome {
     }
 }
 
-/// A gate in memory that writes its asks down, a line for each.
+/// A gate that writes its asks down, a line for each.
 #[derive(Drop)]
-pub struct TellingGate {
-    pub gate: MemoryGate,
+pub struct TellingGate<G: Gate> {
+    pub gate: G,
     pub lines: Vec<u8>,
     pub is_whole: bool,
 }
 
-impl Gate for TellingGate {
-    ghost use Rattle.upstream_gate.specs.contracts.memory_gate.MemoryGate as memory;
+impl<G: Gate> Gate for TellingGate<G> {
+    ghost exchanges = { λ s. G.exchanges s.gate };
 
-    ghost exchanges = { λ s. memory.Gate.exchanges s.gate };
-
-    ghost faults = { λ s. memory.Gate.faults s.gate };
+    ghost faults = { λ s. G.faults s.gate };
 
     fn fetch(&mut self, alloc: Global, ask: &Ask) -> Outcome {
         if put_ask(alloc, &mut self.lines, ask).is_err() {

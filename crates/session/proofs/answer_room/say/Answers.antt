@@ -1,6 +1,5 @@
-use Rattle.std.proofs.Common.{◌≡◌, ◌++◌, ◌∙◌, ap, length, subst, sym, Bool, true, refl, List, ℕ}
+use Rattle.std.proofs.Common.{◌++◌, ◌∙◌, ap, length, subst, Bool}
 use Rattle.cdni_base.specs.Scratch.{Room, Puts}
-use Rattle.answer_head.specs.Answer.{head_text}
 use Rattle.session.proofs.AnswerLemmas.{says_as, head_put, said_apart, said_joined}
 use Rattle.session.proofs.answer_room.say.Goals as goal
 

@@ -18,7 +18,7 @@ returns-in-Ok-gather-clause-does g c =
     let asked = c.in-Ok-gather.ensures.gathers in
     let end = c.end_refresh.ensures.made in
     gathered _ _ _ _ _ _ _ _ c.args.root.now c.args.moment due.refresh asked.0 _ end.0 end.1 asked.2 (made_as _ _ due.field-0-is _ _ _ _ due.ensures.seen) asked.1 end.2
-        _ c.call.ensures.who end.3
+    _ c.call.ensures.who end.3
 
 pub returns-in-Ok-Due-clause-does : goal.returns-in-Ok-Due-clause-does
 returns-in-Ok-Due-clause-does g c =
@@ -26,7 +26,7 @@ returns-in-Ok-Due-clause-does g c =
     let asked = c.in-Err-gather.ensures.gathers in
     let end = c.end_refresh-in-Err-gather.ensures.made in
     ungathered _ _ _ _ _ _ _ _ c.args.root.now c.args.moment due.refresh asked.0 end.0 end.1 asked.2 (made_as _ _ due.field-0-is _ _ _ _ due.ensures.seen) asked.1 end.2
-        _ c.call.ensures.who end.3
+    _ c.call.ensures.who end.3
 
 pub returns-clause-does : goal.returns-clause-does
 returns-clause-does g c =

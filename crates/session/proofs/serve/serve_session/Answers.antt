@@ -1,4 +1,4 @@
-use Rattle.std.proofs.Common.{◌≡◌, ◌∙◌, arith, refl, sym, ap}
+use Rattle.std.proofs.Common.{◌∙◌, arith, refl, sym}
 use Rattle.session.proofs.SessionLemmas.{begins, goes_on, no_room, stops, used_up}
 use Rattle.session.proofs.serve.serve_session.Goals as goal
 

@@ -5,4 +5,4 @@ use Rattle.field_list.proofs.ListLemmas.{all_by_fold}
 use Rattle.upstream_http.proofs.fields.is_identity.Goals as goal
 
 pub returns : goal.returns
-returns c = c.told_by.ensures ∙ all_by_fold is_no_coding (items_of (codes "content-encoding") c.args.head.now.headers) true
+returns c = c.result.view_is ∙ c.told_by.ensures ∙ all_by_fold is_no_coding (items_of (codes "content-encoding") c.args.head.now.headers) true

@@ -1,2 +1,5 @@
 pub mod Meets
 pub mod Fields
+pub mod StatusUrl
+pub mod Items
+pub mod Checks

@@ -1,13 +1,13 @@
 -- The checks of a trigger, in their order: what they let through, and the first that fails.
-use Rattle.std.proofs.Common.{◌≡◌, ℕ, zero, suc, ◌+◌, ◌-◌, ◌^◌, ◌<◌, ◌≤◌, min, Bool, true, false, cond, List, [], ◌∷◌, ◌++◌, map, length, take, slice_get, All, refl, sym, ap, ◌∙◌, subst, inl, inr, Ok, Err, None, Some, Option, arith, append_assoc}
+use Rattle.std.proofs.Common.{◌≡◌, ℕ, zero, suc, ◌+◌, ◌-◌, ◌^◌, ◌<◌, min, Bool, true, false, List, [], ◌∷◌, ◌++◌, length, take, All, refl, sym, ap, ◌∙◌, subst, inl, inr, Ok, Err, None, Some, Option, arith}
 use Rattle.std.proofs.lemmas.List.{length-map}
 use Rattle.std.specs.List.{AllZip}
 use Rattle.std.specs.Bool.{Decides}
 use Rattle.std.specs.Prelude.{◌⊎◌, if◌then◌else◌, nat_lt, ◌&&◌, ◌==◌}
 use Rattle.std.specs.Option.{option_map_or}
 use Rattle.std.specs.declared.result.Result.{Result}
-use Rattle.std.proofs.lemmas.Bool.{and_parts, and_from, cases_eq}
-use Rattle.std.proofs.lemmas.Bool.Decides.{Decides-eqb, Decides-ltb, Decides-and, Decides-like, not_from_Decides}
+use Rattle.std.proofs.lemmas.Bool.{cases_eq}
+use Rattle.std.proofs.lemmas.Bool.Decides.{Decides-eqb, Decides-ltb, Decides-and, not_from_Decides}
 use Rattle.std.proofs.lemmas.List.Elements.{All-append, All-cons, All-head, All-nil, All-tail, All-weaker}
 use Rattle.json_read.specs.Field.{◌>>=◌}
 use Rattle.targets.specs.Grammar.{IsTarget}
@@ -23,8 +23,8 @@ use Rattle.trigger_command.specs.declared.spec.TriggerKind.{TriggerKind}
 use Rattle.trigger_command.specs.declared.spec.TriggerKind.TheVariants.{Preposition, Invalidate, Purge}
 use Rattle.command_law.specs.Faults.{IsAbsoluteUrl, IsAllowed, IsFirstWrong, IsShort, HasRightLists, IsWrongTrigger, WrittenPattern, WrittenTrigger, urls_of, patterns_of, item_count}
 use Rattle.command_law.specs.Faults as faults
-use Rattle.command_law.proofs.Meets.{Meets, IsOfFirst, ok_err, same_ok, same_err, meets_ok, meets_err, meets_also, meets_then, meets_step, meets_step_by, meets_each}
-use Rattle.command_law.proofs.Fields.{Draft, PatternDraft, pattern_draft, trigger_draft}
+use Rattle.command_law.proofs.Meets.{Meets, ok_err, same_err, meets_ok, meets_err, meets_also, meets_then, meets_step, meets_step_by, meets_each}
+use Rattle.command_law.proofs.Fields.{pattern_draft, trigger_draft}
 use Rattle.command_law.proofs.Items.{IsUrlItem, IsItemOf, url_meets, pattern_item_meets, each_of_drafts, each_is_right, right_each}
 
 -- ---- the numbers of items
@@ -241,7 +241,11 @@ paired (Ok x) (Ok y) (Ok z) (Ok w) f = refl
 
 abbrev selected : WrittenTrigger → List UrlItem → List UrlItem → List PatternItem → List PatternItem → Selection
 selected trigger metadata_urls content_urls metadata_patterns content_patterns = record {
-  metadata_urls = metadata_urls; content_urls = content_urls; ccids = trigger.ccids; metadata_patterns = metadata_patterns; content_patterns = content_patterns;
+  metadata_urls = metadata_urls;
+  content_urls = content_urls;
+  ccids = trigger.ccids;
+  metadata_patterns = metadata_patterns;
+  content_patterns = content_patterns;
 }
 
 abbrev read_pattern : ℕ → WrittenPattern → Judged PatternItem
@@ -302,8 +306,15 @@ selection_meets trigger = subst (λ reading. Meets reading (IsSelected trigger) 
     (λ p so. both_absolute trigger.metadata_urls trigger.content_urls (p, so)) (absolute_both trigger.metadata_urls trigger.content_urls)
     (λ p so. meets_step (both_read read_pattern trigger.metadata_patterns trigger.content_patterns) _ (patterns_meet trigger.metadata_patterns trigger.content_patterns) (λ q so. meets_ok (selected trigger p.0 p.1 q.0 q.1))))
     (λ selection so. subst (IsSelected trigger) so.2.2 (record { metadata_urls = so.1.0; content_urls = so.1.1; ccids = refl; metadata_patterns = so.2.1.0; content_patterns = so.2.1.1 }))
-    (λ selection so. ((selection.metadata_urls, selection.content_urls), (so.metadata_urls, so.content_urls), ((selection.metadata_patterns, selection.content_patterns), (so.metadata_patterns, so.content_patterns),
-    ap (λ ccids. record { metadata_urls = selection.metadata_urls; content_urls = selection.content_urls; ccids = ccids; metadata_patterns = selection.metadata_patterns; content_patterns = selection.content_patterns }) so.ccids)))
+    (λ selection so. (
+      (selection.metadata_urls, selection.content_urls),
+      (so.metadata_urls, so.content_urls),
+      (
+        (selection.metadata_patterns, selection.content_patterns),
+        (so.metadata_patterns, so.content_patterns),
+        ap (λ ccids. record { metadata_urls = selection.metadata_urls; content_urls = selection.content_urls; ccids = ccids; metadata_patterns = selection.metadata_patterns; content_patterns = selection.content_patterns }) so.ccids,
+      ),
+    ))
     (λ wrong so. elim so [ inl bad ↦ inl bad | inr later ↦ elim later.1 [ inl bad ↦ inr (later.0, bad) | inr more ↦ absurd more.1 ] ])
     (λ wrong so. elim so [ inl bad ↦ inl bad | inr later ↦ inr (later.0, inl later.1) ]))
 

@@ -1,19 +1,18 @@
 -- The fields of a command: what is read of each is what the grammar says.
-use Rattle.std.proofs.Common.{◌≡◌, ◌≢◌, ℕ, ◌+◌, Bool, true, false, List, [], ◌∷◌, map, slice_get, take, codes, bytes_eq, refl, sym, ap, ◌∙◌, subst, inl, inr, Ok, Err, None, Some, Option, arith}
+use Rattle.std.proofs.Common.{◌≡◌, ◌≢◌, ℕ, Bool, true, false, List, [], ◌∷◌, map, take, codes, bytes_eq, refl, sym, ap, ◌∙◌, subst, inl, inr, Ok, Err, None, Some, Option, arith}
 use Rattle.std.specs.List.{AllZip}
 use Rattle.std.specs.Prelude.{◌⊎◌, if◌then◌else◌}
 use Rattle.std.specs.Option.{option_map_or}
 use Rattle.std.specs.Result.{result_ok}
 use Rattle.std.specs.declared.result.Result.{Result}
-use Rattle.std.proofs.lemmas.Bool.{cases_Bool, cond-true, cond-false, both_ways}
 use Rattle.std.proofs.lemmas.Option.{none-some, same_Some}
 use Rattle.std.proofs.lemmas.Slice.Eq.{bytes_eq-Decides}
-use Rattle.cdni_base.specs.Provider.{IsProvider, IsProviderId, provider_of, wrong_place}
+use Rattle.cdni_base.specs.Provider.{IsProvider, wrong_place}
 use Rattle.cdni_base.specs.declared.provider.ProviderId.{ProviderId}
 use Rattle.cdni_base.specs.declared.provider.ProviderFault.{ProviderFault}
 use Rattle.cdni_base.specs.declared.provider.ProviderFault.TheVariants.{Bad}
 use Rattle.cdni_base.proofs.ProviderLemmas.{provider_right, right_provider}
-use Rattle.json_read.specs.Field.{◌>>=◌, or_fault, looked_up, needed, text_of, items_of, flag_of}
+use Rattle.json_read.specs.Field.{◌>>=◌, or_fault, needed, text_of, items_of, flag_of}
 use Rattle.json_read.specs.Path.{child_of, item_of}
 use Rattle.json_read.specs.declared.fault.FieldCause.{FieldCause}
 use Rattle.json_read.specs.declared.fault.FieldCause.TheVariants.{Missing, WrongKind, OutOfRange}
@@ -22,7 +21,7 @@ use Rattle.serde_json.specs.Data.{Data, null, boolean, number, string, array, ob
 use Rattle.serde_json.specs.Find.{get, get_member, as_array, as_bool, as_object, as_str}
 use Rattle.serde_json.specs.View as view
 use Rattle.trigger_command.proofs.Loops.{values_of_items}
-use Rattle.trigger_command.specs.Draft.{Reading, each_from, each_of, values_of, list_of, list_found, list_or, provider_at, needed_text, flag_found, flag_or_false, pattern_at, kind_named, kind_at, draft_at, path_at}
+use Rattle.trigger_command.specs.Draft.{Reading, each_of, values_of, list_of, list_found, list_or, provider_at, needed_text, flag_found, flag_or_false, pattern_at, kind_named, kind_at, draft_at, path_at}
 use Rattle.trigger_command.specs.Reading.{draft_count, pattern_item}
 use Rattle.trigger_command.specs.declared.spec.TriggerKind.{TriggerKind}
 use Rattle.trigger_command.specs.declared.spec.TriggerKind.TheVariants.{Preposition, Invalidate, Purge}
@@ -177,7 +176,7 @@ module _ {A : Type 0} (read : List ℕ → Data → Reading A) (IsIt : Data → 
       (λ fault is. elim is [ inl neither ↦ inl (inl neither) | inr more ↦ elim more [ inl none ↦ inl (inr none) | inr wrong ↦ inr wrong ] ])
 
 -- the value of a property that is there is an object's
-has_object : (name : List ℕ) (value member : Data) → Has name member value → (members : Members) × (value ≡ object members)
+pub has_object : (name : List ℕ) (value member : Data) → Has name member value → (members : Members) × (value ≡ object members)
 has_object name null member is = absurd (none-some member is)
 has_object name (boolean b) member is = absurd (none-some member is)
 has_object name (number n) member is = absurd (none-some member is)
@@ -288,8 +287,12 @@ pattern_draft pattern = record { text = pattern.text; case = pattern.case; query
 
 abbrev pub trigger_draft : WrittenTrigger → Draft
 trigger_draft trigger = record {
-  kind = trigger.kind; metadata_urls = trigger.metadata_urls; content_urls = trigger.content_urls; ccids = trigger.ccids;
-  metadata_patterns = map pattern_draft trigger.metadata_patterns; content_patterns = map pattern_draft trigger.content_patterns;
+  kind = trigger.kind;
+  metadata_urls = trigger.metadata_urls;
+  content_urls = trigger.content_urls;
+  ccids = trigger.ccids;
+  metadata_patterns = map pattern_draft trigger.metadata_patterns;
+  content_patterns = map pattern_draft trigger.content_patterns;
 }
 
 -- the value writes a pattern, which the reader has as this one
@@ -380,11 +383,28 @@ trigger_meets path value = meets_also (draft_at path value)
     (λ metadata_patterns d. meets_step_by (SomePatterns (codes "content.patterns") value) (list_or pattern_at path (codes "content.patterns") value) _ (patterns_meets path (codes "content.patterns") value ms.0 ms.1)
     (λ drafts so. (so.0, so.1)) (λ so. (map pattern_draft so.0, (so.0, so.1, refl)))
     (λ content_patterns e. meets_ok (record { kind = kind; metadata_urls = metadata_urls; content_urls = content_urls; ccids = ccids; metadata_patterns = metadata_patterns; content_patterns = content_patterns }))))))))
-    (λ draft so. (record { kind = so.0; metadata_urls = so.2.0; content_urls = so.2.2.0; ccids = so.2.2.2.0; metadata_patterns = so.2.2.2.2.1.0; content_patterns = so.2.2.2.2.2.1.0 },
-    record { kind = so.1; metadata_urls = so.2.1; content_urls = so.2.2.1; ccids = so.2.2.2.1; metadata_patterns = so.2.2.2.2.1.1; content_patterns = so.2.2.2.2.2.1.1 },
-    same_drafts so.0 so.2.0 so.2.2.0 so.2.2.2.0 so.2.2.2.2.0 so.2.2.2.2.2.0 _ _ draft so.2.2.2.2.1.2 so.2.2.2.2.2.1.2 so.2.2.2.2.2.2))
-    (λ draft so. let t = so.0 in let is = so.1 in (t.kind, is.kind, (t.metadata_urls, is.metadata_urls, (t.content_urls, is.content_urls, (t.ccids, is.ccids,
-    (map pattern_draft t.metadata_patterns, (t.metadata_patterns, is.metadata_patterns, refl), (map pattern_draft t.content_patterns, (t.content_patterns, is.content_patterns, refl), so.2)))))))
+    (λ draft so. (
+      record { kind = so.0; metadata_urls = so.2.0; content_urls = so.2.2.0; ccids = so.2.2.2.0; metadata_patterns = so.2.2.2.2.1.0; content_patterns = so.2.2.2.2.2.1.0 },
+      record { kind = so.1; metadata_urls = so.2.1; content_urls = so.2.2.1; ccids = so.2.2.2.1; metadata_patterns = so.2.2.2.2.1.1; content_patterns = so.2.2.2.2.2.1.1 },
+      same_drafts so.0 so.2.0 so.2.2.0 so.2.2.2.0 so.2.2.2.2.0 so.2.2.2.2.2.0 _ _ draft so.2.2.2.2.1.2 so.2.2.2.2.2.1.2 so.2.2.2.2.2.2,
+    ))
+    (λ draft so. let t = so.0 in let is = so.1 in (
+      t.kind,
+      is.kind,
+      (
+        t.metadata_urls,
+        is.metadata_urls,
+        (
+          t.content_urls,
+          is.content_urls,
+          (
+            t.ccids,
+            is.ccids,
+            (map pattern_draft t.metadata_patterns, (t.metadata_patterns, is.metadata_patterns, refl), (map pattern_draft t.content_patterns, (t.content_patterns, is.content_patterns, refl), so.2)),
+          ),
+        ),
+      ),
+    ))
     (λ fault so. so) (λ fault so. so)
 
 -- ---- the path

@@ -1,17 +1,16 @@
 -- The items of a command: what the checks behind the fields answer of each URL, pattern and id.
-use Rattle.std.proofs.Common.{◌≡◌, ℕ, zero, suc, ◌+◌, ◌-◌, ◌*◌, ◌^◌, ◌<◌, ◌≤◌, Bool, true, false, cond, List, [], ◌∷◌, ◌++◌, map, length, take, drop, slice_get, get_or, codes, decimal, bytes_eq, All, Contains, refl, sym, ap, ◌∙◌, subst, inl, inr, Ok, Err, None, Some, Option, arith, lit<, take_at, drop_at, take-append-drop}
-use Rattle.std.specs.List.{AllZip, list_any}
-use Rattle.std.specs.Prelude.{◌⊎◌, if◌then◌else◌, nat_lt}
+use Rattle.std.proofs.Common.{◌≡◌, ℕ, zero, suc, ◌+◌, ◌<◌, ◌≤◌, Bool, true, false, List, [], ◌∷◌, map, length, bytes_eq, All, Contains, refl, sym, ap, ◌∙◌, subst, inl, inr, Ok, Err, None, Some, Option, arith}
+use Rattle.std.specs.List.{AllZip}
+use Rattle.std.specs.Prelude.{if◌then◌else◌, nat_lt}
 use Rattle.std.specs.Option.{option_map_or}
 use Rattle.std.specs.Result.{result_ok}
 use Rattle.std.specs.declared.result.Result.{Result}
-use Rattle.std.proofs.lemmas.Bool.{cases_Bool, cond-true, cond-false, both_ways, ltb-true, ltb-false, lt-ltb, le-ltb, or_cases, or_left, or_right, and_parts}
+use Rattle.std.proofs.lemmas.Bool.{both_ways, ltb-true, ltb-false, or_cases, or_left, or_right}
 use Rattle.std.proofs.lemmas.List.Elements.{All-cons, All-head, All-nil, All-tail}
 use Rattle.std.proofs.lemmas.Option.{none-some, same_Some}
 use Rattle.std.proofs.lemmas.Slice.Eq.{bytes_eq-Decides}
 use Rattle.cdni_base.specs.declared.provider.ProviderId.{ProviderId}
 use Rattle.json_read.specs.Field.{◌>>=◌}
-use Rattle.pattern_match.specs.Matching.{compiled}
 use Rattle.targets.specs.Grammar.{IsTarget}
 use Rattle.targets.specs.Target.{target_of}
 use Rattle.targets.specs.declared.target.Target.{Target}
@@ -25,9 +24,9 @@ use Rattle.trigger_command.specs.declared.fault.CommandFault.TheVariants as faul
 use Rattle.trigger_command.specs.declared.selection.PatternItem.{PatternItem}
 use Rattle.trigger_command.specs.declared.selection.UrlItem.{UrlItem}
 use Rattle.command_law.specs.Grammar.{IsStatusUrl}
-use Rattle.command_law.specs.Faults.{IsAbsoluteUrl, IsSomeStatusUrl, IsShort, IsFirstWrong, WrittenPattern}
-use Rattle.command_law.proofs.Meets.{Meets, IsOfFirst, ok_err, same_ok, meets_ok, meets_err, meets_also, meets_step, meets_each}
-use Rattle.command_law.proofs.Fields.{PatternDraft, pattern_draft}
+use Rattle.command_law.specs.Faults.{IsAbsoluteUrl, IsSomeStatusUrl, IsShort, WrittenPattern}
+use Rattle.command_law.proofs.Meets.{Meets, ok_err, same_ok, meets_ok, meets_err, meets_also}
+use Rattle.command_law.proofs.Fields.{pattern_draft}
 use Rattle.command_law.proofs.StatusUrl.{status_is, status_number}
 
 -- ---- a URL

@@ -3,3 +3,4 @@ pub mod Fields
 pub mod StatusUrl
 pub mod Items
 pub mod Checks
+pub mod Commands

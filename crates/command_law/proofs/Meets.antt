@@ -1,5 +1,5 @@
 -- A reading and the relations that say what it answers, both ways.
-use Rattle.std.proofs.Common.{◌≡◌, ℕ, zero, suc, ◌+◌, List, [], ◌∷◌, ◌++◌, length, take, slice_get, All, refl, sym, ap, ◌∙◌, subst, inl, inr, Ok, Err, None, Some, Option, arith}
+use Rattle.std.proofs.Common.{◌≡◌, ℕ, zero, suc, ◌+◌, List, [], ◌∷◌, take, slice_get, refl, sym, ap, ◌∙◌, subst, inl, inr, Ok, Err, Some, arith}
 use Rattle.std.specs.List.{AllZip}
 use Rattle.std.proofs.lemmas.Option.{none-some, same_Some}
 use Rattle.std.specs.Prelude.{◌⊎◌}

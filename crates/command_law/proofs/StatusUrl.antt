@@ -48,9 +48,10 @@ number_behind_is : (scheme control text : List ℕ) (n : ℕ) → number_behind 
 number_behind_is scheme control text n is =
     bound (behind scheme text >>= behind control >>= behind (codes "/triggers/")) number_of n is (λ digits a last.
     bound (behind scheme text >>= behind control) (behind (codes "/triggers/")) digits a (λ path b then.
-    bound (behind scheme text) (behind control) path b (λ rest c next.
-    (behind_is scheme text rest c ∙ ap (λ t. scheme ++ t) (behind_is control rest path next ∙ ap (λ t. control ++ t) (behind_is (codes "/triggers/") path digits then ∙ ap (λ t. codes "/triggers/" ++ t) (decimal_is digits n last))),
-    small_number digits n last))))
+    bound (behind scheme text) (behind control) path b (λ rest c next. (
+      behind_is scheme text rest c ∙ ap (λ t. scheme ++ t) (behind_is control rest path next ∙ ap (λ t. control ++ t) (behind_is (codes "/triggers/") path digits then ∙ ap (λ t. codes "/triggers/" ++ t) (decimal_is digits n last))),
+      small_number digits n last,
+    ))))
 
 number_behind_status : (scheme control : List ℕ) (n : ℕ) → n < 2 ^ 64 → number_behind scheme control (status_text scheme control n) ≡ Some n
 number_behind_status scheme control n small =

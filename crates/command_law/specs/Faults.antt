@@ -1,5 +1,6 @@
 -- The first fault of a trigger command, in the order in which it is read (RFC 8007, sections 4.6, 5.1.1 and 5.2).
-use Rattle.std.specs.Prelude.{◌≡◌, ◌≢◌, ◌⊎◌, ℕ, ◌+◌, ◌-◌, ◌^◌, ◌<◌, ◌≤◌, min, Bool, false, List, [], ◌∷◌, ◌++◌, length, take, slice_get, codes, None, Some, All, Contains}
+use Rattle.std.specs.Prelude.{◌≡◌, ◌≢◌, ◌⊎◌, ℕ, ◌+◌, ◌-◌, ◌^◌, ◌<◌, ◌≤◌, min, Bool, false, List, [], ◌∷◌, ◌++◌}
+use Rattle.std.specs.Prelude.{length, take, slice_get, codes, None, Some, All, Contains}
 use Rattle.std.specs.List.{AllZip}
 use Rattle.cdni_base.specs.Provider.{IsProvider}
 use Rattle.cdni_base.specs.declared.provider.ProviderId.{ProviderId}
@@ -75,6 +76,10 @@ HasPath value path = (list : Data) × Has (codes "cdn-path") list value × IsLis
 abbrev pub IsAt : List ℕ → FieldCause → FieldFault → Type 0
 IsAt path cause fault = fault ≡ record { path = path; cause = cause }
 
+-- which faults a value at a place has
+abbrev pub FaultsOf : Type 1
+FaultsOf = List ℕ → Data → FieldFault → Type 0
+
 -- a step of the reading: that it goes well, and its faults
 pub record Step : Type 1 where
   pub goes_well : Type 0
@@ -86,51 +91,48 @@ IsOfFirst [] fault = ⊥
 IsOfFirst (step ∷ steps) fault = step.has_fault fault ⊎ (step.goes_well × IsOfFirst steps fault)
 
 -- of the items of a list at this place, the first that is wrong has this fault
-abbrev pub IsOfFirstItem : {A : Type 0} → (Data → A → Type 0) → (List ℕ → Data → FieldFault → Type 0) → List ℕ
-    → List Data → FieldFault → Type 0
+abbrev pub IsOfFirstItem : {A : Type 0} → (Data → A → Type 0) → FaultsOf → List ℕ → List Data → FieldFault → Type 0
 IsOfFirstItem {A} IsItem HasFault path items fault =
     (i : ℕ) × (item : Data) × (slice_get items i ≡ Some item) × ((xs : List A) × AllZip IsItem (take i items) xs)
     × HasFault (item_of path i) item fault
 
 -- the value is no list, or an item of it is wrong
-abbrev pub HasListFault : {A : Type 0} → (Data → A → Type 0) → (List ℕ → Data → FieldFault → Type 0) → List ℕ → Data
-    → FieldFault → Type 0
+abbrev pub HasListFault : {A : Type 0} → (Data → A → Type 0) → FaultsOf → FaultsOf
 HasListFault IsItem HasFault path value fault =
     ((as_array value ≡ None) × IsAt path WrongKind fault)
     ⊎ ((items : List Data) × (value ≡ array (items_of items)) × IsOfFirstItem IsItem HasFault path items fault)
 
 -- the property is there and is wrong
-abbrev pub HasWrong : (List ℕ → Data → FieldFault → Type 0) → List ℕ → List ℕ → Data → FieldFault → Type 0
+abbrev pub HasWrong : FaultsOf → List ℕ → List ℕ → Data → FieldFault → Type 0
 HasWrong HasFault path name owner fault =
     (value : Data) × Has name value owner × HasFault (child_of path name) value fault
 
 -- the value is no object, or the property is absent or wrong
-abbrev pub LacksRight : (List ℕ → Data → FieldFault → Type 0) → List ℕ → List ℕ → Data → FieldFault → Type 0
+abbrev pub LacksRight : FaultsOf → List ℕ → List ℕ → Data → FieldFault → Type 0
 LacksRight HasFault path name value fault =
     ((as_object value ≡ None) × IsAt path WrongKind fault)
     ⊎ ((((members : Members) × (value ≡ object members)) × Lacks name value × IsAt (child_of path name) Missing fault)
     ⊎ HasWrong HasFault path name value fault)
 
-abbrev pub HasTextFault : List ℕ → Data → FieldFault → Type 0
+abbrev pub HasTextFault : FaultsOf
 HasTextFault path value fault = (as_str value ≡ None) × IsAt path WrongKind fault
 
-abbrev pub HasFlagFault : List ℕ → Data → FieldFault → Type 0
+abbrev pub HasFlagFault : FaultsOf
 HasFlagFault path value fault = (as_bool value ≡ None) × IsAt path WrongKind fault
 
 -- the value is no text, or its text is no provider id
-abbrev pub HasIdFault : List ℕ → Data → FieldFault → Type 0
+abbrev pub HasIdFault : FaultsOf
 HasIdFault path value fault = HasTextFault path value fault
     ⊎ ((text : List ℕ) × (value ≡ string text) × (IsProvider text → ⊥) × IsAt path OutOfRange fault)
 
 -- the value is no text, or its text is none of the three types
-abbrev pub HasKindFault : List ℕ → Data → FieldFault → Type 0
+abbrev pub HasKindFault : FaultsOf
 HasKindFault path value fault = HasTextFault path value fault
     ⊎ ((text : List ℕ) × (value ≡ string text) × ((kind : TriggerKind) → text ≢ kind_name kind)
     × IsAt path OutOfRange fault)
 
 -- a list that may be absent
-abbrev pub list_step : {A : Type 0} → (Data → A → Type 0) → (List ℕ → Data → FieldFault → Type 0) → List ℕ → List ℕ
-    → Data → Step
+abbrev pub list_step : {A : Type 0} → (Data → A → Type 0) → FaultsOf → List ℕ → List ℕ → Data → Step
 list_step {A} IsItem HasFault path name value = record {
   goes_well = (xs : List A) × HasList IsItem name value xs;
   has_fault = HasWrong (HasListFault IsItem HasFault) path name value;
@@ -151,7 +153,7 @@ pattern_steps path value =
     } ∷ flag_step path (codes "case-sensitive") value
     ∷ flag_step path (codes "match-query-string") value ∷ []
 
-abbrev pub HasPatternFault : List ℕ → Data → FieldFault → Type 0
+abbrev pub HasPatternFault : FaultsOf
 HasPatternFault path value fault = IsOfFirst (pattern_steps path value) fault
 
 -- and a trigger in this one
@@ -166,7 +168,7 @@ trigger_steps path value =
     ∷ list_step IsWrittenPattern HasPatternFault path (codes "metadata.patterns") value
     ∷ list_step IsWrittenPattern HasPatternFault path (codes "content.patterns") value ∷ []
 
-abbrev pub HasTriggerFault : List ℕ → Data → FieldFault → Type 0
+abbrev pub HasTriggerFault : FaultsOf
 HasTriggerFault path value fault = IsOfFirst (trigger_steps path value) fault
 
 -- neither `trigger` nor `cancel` is there, or both are, or the one that is there is wrong

@@ -4,3 +4,5 @@ pub mod StatusUrl
 pub mod Items
 pub mod Checks
 pub mod Commands
+pub mod RoundTrip
+pub mod Shown

@@ -3,3 +3,4 @@
 #![tactic(auto)]
 
 pub mod grammar;
+pub mod status;

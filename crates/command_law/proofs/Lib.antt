@@ -6,3 +6,5 @@ pub mod Checks
 pub mod Commands
 pub mod RoundTrip
 pub mod Shown
+pub mod Kept
+pub mod Utf8Texts

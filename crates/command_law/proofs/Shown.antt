@@ -65,25 +65,25 @@ text_again value text so = refl
 -- ---- the trigger
 
 module _ (spec : SpecParts) where
-  abbrev kind_members : Members
+  abbrev pub kind_members : Members
   kind_members = member (codes "type") (string (kind_name spec.kind)) no_members
 
-  abbrev from_metadata_urls : Members
+  abbrev pub from_metadata_urls : Members
   from_metadata_urls = with_list (codes "metadata.urls") (each_as url_data spec.selection.metadata_urls) kind_members
 
-  abbrev from_metadata_patterns : Members
+  abbrev pub from_metadata_patterns : Members
   from_metadata_patterns = with_list (codes "metadata.patterns") (each_as pattern_data spec.selection.metadata_patterns) from_metadata_urls
 
-  abbrev from_content_urls : Members
+  abbrev pub from_content_urls : Members
   from_content_urls = with_list (codes "content.urls") (each_as url_data spec.selection.content_urls) from_metadata_patterns
 
-  abbrev from_content_patterns : Members
+  abbrev pub from_content_patterns : Members
   from_content_patterns = with_list (codes "content.patterns") (each_as pattern_data spec.selection.content_patterns) from_content_urls
 
-  abbrev from_ccids : Members
+  abbrev pub from_ccids : Members
   from_ccids = with_list (codes "content.ccid") (each_as string spec.selection.ccids) from_content_patterns
 
-  trigger_is : trigger_data spec ≡ object from_ccids
+  pub trigger_is : trigger_data spec ≡ object from_ccids
   unfolding trigger_data
   trigger_is = refl
 

@@ -1,7 +1,7 @@
 -- A command that is made of a shown trigger is read back from its text, where the texts of the trigger are in UTF-8.
-use Rattle.std.proofs.Common.{◌≡◌, ℕ, zero, suc, ◌+◌, ◌<◌, ◌≤◌, max, Bool, true, false, List, [], ◌∷◌, map, All, codes, refl, sym, ap, ◌∙◌, subst, inl, inr, None, Some, Option, IsUtf8, arith}
+use Rattle.std.proofs.Common.{◌≡◌, ℕ, suc, ◌≤◌, true, List, [], ◌∷◌, All, codes, refl, sym, subst, inl, inr, Some, Option, IsUtf8, arith}
 use Rattle.std.specs.List.{AllZip}
-use Rattle.std.specs.Prelude.{◌⊎◌, ⊤}
+use Rattle.std.specs.Prelude.{⊤}
 use Rattle.std.specs.Ordering.{nat_cmp, match_ordering}
 use Rattle.std.specs.declared.cmp.Ordering.{Ordering}
 use Rattle.std.specs.declared.cmp.Ordering.TheVariants.{Less, Equal, Greater}
@@ -13,7 +13,7 @@ use Rattle.json.proofs.Printed.Utf8.{IsUtf8-are_ascii}
 use Rattle.json_read.specs.Text.{json_of}
 use Rattle.cdni_base.specs.declared.provider.ProviderId.{ProviderId}
 use Rattle.serde_json.specs.Data.{Data, null, boolean, number, string, array, object, Items, no_items, item, Members, no_members, member}
-use Rattle.serde_json.specs.Find.{get, get_member}
+use Rattle.serde_json.specs.Find.{get_member}
 use Rattle.serde_json.specs.View.{items_of}
 use Rattle.serde_json.specs.Written.{outline, items_outline, members_outline}
 use Rattle.trigger_command.specs.Spec.{SpecParts}
@@ -23,7 +23,7 @@ use Rattle.trigger_command.specs.declared.spec.TriggerKind.{TriggerKind}
 use Rattle.trigger_command.specs.declared.spec.TriggerKind.TheVariants.{Preposition, Invalidate, Purge}
 use Rattle.trigger_status.specs.Items.{each_as, url_data, pattern_data, with_list}
 use Rattle.trigger_status.specs.Job.{kind_name, trigger_data}
-use Rattle.command_law.specs.Grammar.{Has, HasList, IsList, IsText, IsUrl, IsPattern, IsSpec}
+use Rattle.command_law.specs.Grammar.{Has, HasList, IsText, IsUrl, IsPattern, IsSpec}
 use Rattle.command_law.specs.Status.{command_data, command_text, id_data}
 use Rattle.command_law.proofs.RoundTrip.{IsKept, AreKept, AreInOrder, IsBehind, with_last, read_back}
 use Rattle.command_law.proofs.Shown.{kind_members, from_metadata_urls, from_metadata_patterns, from_content_urls, from_content_patterns, from_ccids, trigger_is}
@@ -37,7 +37,7 @@ abbrev mutual
   IsInUtf8 (number n) = ⊤
   IsInUtf8 (string s) = IsUtf8 s
   IsInUtf8 (array items) = AreInUtf8 items
-  IsInUtf8 (object members) = HaveUtf8 members
+  IsInUtf8 (object others) = HaveUtf8 others
 
   pub AreInUtf8 : Items → Type 0
   AreInUtf8 no_items = ⊤
@@ -45,17 +45,17 @@ abbrev mutual
 
   pub HaveUtf8 : Members → Type 0
   HaveUtf8 no_members = ⊤
-  HaveUtf8 (member name value members) = IsInUtf8 value × HaveUtf8 members
+  HaveUtf8 (member name value others) = IsInUtf8 value × HaveUtf8 others
 
 by_order : (order : Ordering) (here : Data) (later : Option Data) (value : Data) → IsInUtf8 here → (later ≡ Some value → IsInUtf8 value) → match_ordering order later (Some here) later ≡ Some value → IsInUtf8 value
 by_order Less here later value utf8 more is = more is
 by_order Equal here later value utf8 more is = subst IsInUtf8 (same_Some here value is) utf8
 by_order Greater here later value utf8 more is = more is
 
-member_utf8 : (name : List ℕ) (members : Members) (value : Data) → HaveUtf8 members → get_member name members ≡ Some value → IsInUtf8 value
+member_utf8 : (name : List ℕ) (others : Members) (value : Data) → HaveUtf8 others → get_member name others ≡ Some value → IsInUtf8 value
 member_utf8 name no_members value all is = absurd (none-some value is)
-member_utf8 name (member other one members) value all is =
-    by_order (slice_cmp nat_cmp name other) one (get_member name members) value all.0 (λ later. member_utf8 name members value all.1 later) is
+member_utf8 name (member other one others) value all is =
+    by_order (slice_cmp nat_cmp name other) one (get_member name others) value all.0 (λ later. member_utf8 name others value all.1 later) is
 
 pub property_utf8 : (name : List ℕ) (owner value : Data) → IsInUtf8 owner → Has name value owner → IsInUtf8 value
 property_utf8 name null value all is = absurd (none-some value is)
@@ -63,7 +63,7 @@ property_utf8 name (boolean b) value all is = absurd (none-some value is)
 property_utf8 name (number n) value all is = absurd (none-some value is)
 property_utf8 name (string s) value all is = absurd (none-some value is)
 property_utf8 name (array items) value all is = absurd (none-some value is)
-property_utf8 name (object members) value all is = member_utf8 name members value all is
+property_utf8 name (object others) value all is = member_utf8 name others value all is
 
 -- ---- lists that are written
 
@@ -116,10 +116,10 @@ all_behind_last : (names : List (List ℕ)) (other : List ℕ) (value : Data) (f
 all_behind_last [] other value found behind after = tt
 all_behind_last (name ∷ names) other value found behind after = (behind_last name other value found behind.0 after.0, all_behind_last names other value found behind.1 after.1)
 
-list_in_order : (name : List ℕ) (names : List (List ℕ)) (items : Items) (members : Members) → AreAfter names name → IsUtf8 name → AreKept items
-    → ((found : Members) → AreBehind names found → AreInOrder found members) → (found : Members) → AreBehind (name ∷ names) found → AreInOrder found (with_list name items members)
-list_in_order name names no_items members after utf8 kept rest found behind = rest found behind.1
-list_in_order name names (item value items) members after utf8 kept rest found behind =
+list_in_order : (name : List ℕ) (names : List (List ℕ)) (items : Items) (others : Members) → AreAfter names name → IsUtf8 name → AreKept items
+    → ((found : Members) → AreBehind names found → AreInOrder found others) → (found : Members) → AreBehind (name ∷ names) found → AreInOrder found (with_list name items others)
+list_in_order name names no_items others after utf8 kept rest found behind = rest found behind.1
+list_in_order name names (item value items) others after utf8 kept rest found behind =
     (behind.0, utf8, kept, rest (with_last found name (array (item value items))) (all_behind_last names name (array (item value items)) found behind.1 after))
 
 kind_utf8 : (kind : TriggerKind) → IsUtf8 (kind_name kind)
@@ -151,19 +151,19 @@ command_kept path value spec ids so utf8 = (tt, ascii (codes "cdn-path") refl, i
 
 -- ---- how deep it nests
 
-list_shallow : (n : ℕ) (name : List ℕ) (items : Items) (members : Members) → tree.items_depth (items_outline items) ≤ n → tree.members_depth (members_outline members) ≤ suc n
-    → tree.members_depth (members_outline (with_list name items members)) ≤ suc n
-list_shallow n name no_items members one rest = rest
-list_shallow n name (item value items) members one rest = omega (arith, one, rest)
+list_shallow : (n : ℕ) (name : List ℕ) (items : Items) (others : Members) → tree.items_depth (items_outline items) ≤ n → tree.members_depth (members_outline others) ≤ suc n
+    → tree.members_depth (members_outline (with_list name items others)) ≤ suc n
+list_shallow n name no_items others one rest = rest
+list_shallow n name (item value items) others one rest = omega (arith, one, rest)
 
 trigger_shallow : (spec : SpecParts) → tree.depth (outline (trigger_data spec)) ≤ 3
 trigger_shallow spec = rw (trigger_is spec)
     (let whole : tree.members_depth (members_outline (from_ccids spec)) ≤ 2 =
-      list_shallow 1 (codes "content.ccid") _ (from_content_patterns spec) (each_shallow IsText string text_kept 1 (λ x. omega arith) spec.selection.ccids)
-      (list_shallow 1 (codes "content.patterns") _ (from_content_urls spec) (each_shallow IsPattern pattern_data pattern_kept 1 (λ x. omega arith) spec.selection.content_patterns)
-      (list_shallow 1 (codes "content.urls") _ (from_metadata_patterns spec) (each_shallow IsUrl url_data url_kept 1 (λ x. omega arith) spec.selection.content_urls)
-      (list_shallow 1 (codes "metadata.patterns") _ (from_metadata_urls spec) (each_shallow IsPattern pattern_data pattern_kept 1 (λ x. omega arith) spec.selection.metadata_patterns)
-      (list_shallow 1 (codes "metadata.urls") _ (kind_members spec) (each_shallow IsUrl url_data url_kept 1 (λ x. omega arith) spec.selection.metadata_urls) (omega arith))))) in
+    list_shallow 1 (codes "content.ccid") _ (from_content_patterns spec) (each_shallow IsText string text_kept 1 (λ x. omega arith) spec.selection.ccids)
+    (list_shallow 1 (codes "content.patterns") _ (from_content_urls spec) (each_shallow IsPattern pattern_data pattern_kept 1 (λ x. omega arith) spec.selection.content_patterns)
+    (list_shallow 1 (codes "content.urls") _ (from_metadata_patterns spec) (each_shallow IsUrl url_data url_kept 1 (λ x. omega arith) spec.selection.content_urls)
+    (list_shallow 1 (codes "metadata.patterns") _ (from_metadata_urls spec) (each_shallow IsPattern pattern_data pattern_kept 1 (λ x. omega arith) spec.selection.metadata_patterns)
+    (list_shallow 1 (codes "metadata.urls") _ (kind_members spec) (each_shallow IsUrl url_data url_kept 1 (λ x. omega arith) spec.selection.metadata_urls) (omega arith))))) in
     omega (arith, whole))
 
 ids_shallow : (path : List ProviderId) → tree.items_depth (items_outline (each_as id_data path)) ≤ 0

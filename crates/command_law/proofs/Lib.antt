@@ -8,3 +8,5 @@ pub mod RoundTrip
 pub mod Shown
 pub mod Kept
 pub mod Utf8Texts
+pub mod Utf8Values
+pub mod Again

@@ -1,22 +1,22 @@
 -- The texts of a JSON text in UTF-8 are in UTF-8.
-use Rattle.std.proofs.Common.{◌≡◌, ℕ, zero, suc, ◌+◌, ◌-◌, ◌*◌, ◌<◌, ◌≤◌, Bool, true, false, cond, ◌&&◌, ◌||◌, ◌==◌, nat_lt, nat_le, List, [], ◌∷◌, ◌++◌, length, Option, Some, None, option_map, option_and_then, IsUtf8, refl, sym, ap, ◌∙◌, subst, inl, inr, arith, append_assoc, length-append}
+use Rattle.std.proofs.Common.{◌≡◌, ℕ, zero, suc, ◌<◌, ◌≤◌, Bool, true, false, cond, ◌==◌, nat_lt, List, [], ◌∷◌, ◌++◌, length, Option, Some, None, option_and_then, IsUtf8, refl, sym, ap, ◌∙◌, subst, inl, inr, arith, length-append}
 use Rattle.std.specs.Prelude.{◌⊎◌, ⊤}
 use Rattle.std.specs.Char.{digit_value, is_digit, encode_utf8}
-use Rattle.std.proofs.lemmas.Bool.{and_parts, cases_lt, cases_Bool, cond_both, cond-true, cond-false, ltb-true, ltb-false, leb-true, le-ltb, lt-ltb, le-leb, ne_eqb, eqb-true, or_cases, or_parts}
+use Rattle.std.proofs.lemmas.Bool.{and_parts, cases_lt, cases_Bool, cond-true, cond-false, ltb-true, le-ltb, ne_eqb, eqb-true}
 use Rattle.std.proofs.lemmas.Bool.Decides.{nat_tests}
 use Rattle.std.proofs.lemmas.Option.{none-some, same_Some}
 use Rattle.std.proofs.lemmas.Str.{IsUtf8-append, IsUtf8-nil, IsUtf8-encode, encode_ascii}
 use lib.Utf8.{scalar, scalars, encode, encodes, low_scalar}
-use Rattle.json.specs.Text.{code_unit, short_escape, is_high_surrogate, is_low_surrogate, surrogate_pair, Within, plain, after_backslash, after_u, after_high, prepend, content}
+use Rattle.json.specs.Text.{code_unit, short_escape, is_high_surrogate, is_low_surrogate, surrogate_pair, plain, after_backslash, after_u, after_high, prepend, content}
 
 -- ---- what stands at the front of bytes in UTF-8
 
-abbrev IsHigh : List ℕ → Type 0
+abbrev pub IsHigh : List ℕ → Type 0
 IsHigh [] = ⊤
 IsHigh (x ∷ xs) = (128 ≤ x) × IsHigh xs
 
 -- the first byte is ASCII, or the first of the high bytes of a character
-abbrev Front : ℕ → List ℕ → Type 0
+abbrev pub Front : ℕ → List ℕ → Type 0
 Front x xs = ((x < 128) × IsUtf8 xs) ⊎ ((front : List ℕ) × (rest : List ℕ) × (xs ≡ front ++ rest) × (128 ≤ x) × IsHigh front × IsUtf8 rest × IsUtf8 (x ∷ front))
 
 -- the bytes of a character that is not ASCII
@@ -51,7 +51,7 @@ peel x xs utf8 = peel_chars utf8.0 x xs utf8.1.0 utf8.1.1
 pub past_ascii : (x : ℕ) (xs : List ℕ) → x < 128 → IsUtf8 (x ∷ xs) → IsUtf8 xs
 past_ascii x xs small utf8 = elim (peel x xs utf8) [ inl one ↦ one.1 | inr more ↦ absurd (omega (arith, more.3)) ]
 
-ascii_then : (x : ℕ) (xs : List ℕ) → x < 128 → IsUtf8 xs → IsUtf8 (x ∷ xs)
+pub ascii_then : (x : ℕ) (xs : List ℕ) → x < 128 → IsUtf8 xs → IsUtf8 (x ∷ xs)
 ascii_then x xs small utf8 = IsUtf8-append (x ∷ []) xs (subst IsUtf8 (encode_ascii x small) (IsUtf8-encode x (low_scalar x (omega arith)))) utf8
 
 -- ---- the content of a string
@@ -100,8 +100,16 @@ short_ascii : (x c : ℕ) → short_escape x ≡ Some c → (x < 128) × (c < 12
 unfolding short_escape
 short_ascii x c is = elim (cases_lt x 128) [
   | inl small ↦ (small, elim (cases_lt c 128) [ inl low ↦ low | inr high ↦ grind (arith, nat_tests) ])
-  | inr big ↦ absurd (none-some c (sym (rw (ne_eqb x 34 (λ e. omega arith), ne_eqb x 92 (λ e. omega arith), ne_eqb x 47 (λ e. omega arith), ne_eqb x 98 (λ e. omega arith), ne_eqb x 102 (λ e. omega arith),
-      ne_eqb x 110 (λ e. omega arith), ne_eqb x 114 (λ e. omega arith), ne_eqb x 116 (λ e. omega arith)) refl) ∙ is))
+  | inr big ↦ absurd (none-some c (sym (rw (
+    ne_eqb x 34 (λ e. omega arith),
+    ne_eqb x 92 (λ e. omega arith),
+    ne_eqb x 47 (λ e. omega arith),
+    ne_eqb x 98 (λ e. omega arith),
+    ne_eqb x 102 (λ e. omega arith),
+    ne_eqb x 110 (λ e. omega arith),
+    ne_eqb x 114 (λ e. omega arith),
+    ne_eqb x 116 (λ e. omega arith),
+  ) refl) ∙ is))
 ]
 
 scalar_from : (u : ℕ) → is_high_surrogate u ≡ false → is_low_surrogate u ≡ false → u < 65536 → scalar u ≡ true

@@ -1,6 +1,7 @@
 -- The grammar of trigger commands: what a JSON value must be to write one (RFC 8007, sections 4.6, 5.1.1 and 5.2). A
 -- property is found by its name, wherever it stands in its object, and properties of other names play no part.
-use Rattle.std.specs.Prelude.{◌≡◌, ◌⊎◌, ℕ, ◌^◌, ◌<◌, ◌≤◌, Bool, false, List, [], ◌++◌, length, codes, decimal, None, Some, Contains}
+use Rattle.std.specs.Prelude.{◌≡◌, ◌⊎◌, ℕ, ◌^◌, ◌<◌, ◌≤◌, Bool, false, List, [], ◌++◌, length, codes}
+use Rattle.std.specs.Prelude.{decimal, None, Some, Contains}
 use Rattle.std.specs.List.{AllZip}
 use Rattle.cdni_base.specs.Provider.{IsProvider}
 use Rattle.cdni_base.specs.declared.provider.ProviderId.{ProviderId}

@@ -2,6 +2,7 @@
 //! whether one of them hits what was fetched before it.
 #![tactic(auto)]
 
+mod chains;
 mod epochs_list;
 pub mod laws;
 #[cfg(test)]

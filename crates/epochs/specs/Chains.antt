@@ -1,12 +1,18 @@
 -- Chains of the content URLs of starts. URLs stand in buckets by their host, port and path. Of each bucket the place of
 -- the last URL is known, and of each URL the place of the one before it in its bucket.
-use Rattle.std.specs.Prelude.{◌≡◌, ℕ, ◌+◌, ◌-◌, ◌*◌, ◌%◌, ◌^◌, ◌<◌, ◌≤◌, List, [], ◌∷◌, ◌++◌, length, fold, set, get_or, slice_get, None, Some, IfSome}
+use Rattle.std.specs.Prelude.{◌≡◌, ℕ, ◌+◌, ◌-◌, ◌*◌, ◌%◌, ◌^◌, ◌<◌, ◌≤◌, Bool, nat_lt, ◌&&◌, ◌||◌, List, [], ◌∷◌, ◌++◌}
+use Rattle.std.specs.Prelude.{length, fold, set, get_or, slice_get, None, Some, IfSome}
+use Rattle.std.specs.List.{list_any}
+use Rattle.std.specs.VecDeque.{deque_capacity, deque_len}
 use Rattle.std.specs.declared.alloc.Global.{Global}
 use Rattle.std.specs.declared.option.Option.{Option}
 use Rattle.std.specs.declared.vec.Vec.{Vec}
+use Rattle.cdni_base.specs.Key.{KeyParts}
+use Rattle.epochs.specs.declared.chains.Chains.{Chains}
 use Rattle.epochs.specs.declared.chains.Place.{Place}
 use Rattle.epochs.specs.declared.chains.TheConstants.{BUCKETS}
 use Rattle.epochs.specs.declared.epochs_list.Start.{Start}
+use Rattle.trigger_command.specs.Selection.{is_ccid, pattern_hits, url_hits}
 use Rattle.trigger_command.specs.declared.selection.UrlItem.{UrlItem}
 
 -- a number that these bytes give, behind another
@@ -48,6 +54,7 @@ pub record IsLast (starts : List Start) (forgotten unchained bucket bound : ℕ)
   pub none_above : (epoch item : ℕ) (url : UrlItem) → IsUrl starts unchained epoch item url → url_bucket url ≡ bucket
       → rank epoch item < bound → IsUpTo (rank epoch item) last
   pub below : IfSome last (λ place. place_rank place < bound)
+  pub fits : IfSome last (λ place. place.item < 2 ^ 64)
   pub there : IfSome last (λ place. forgotten < place.epoch → unchained < place.epoch
       → (url : UrlItem) × IsUrl starts unchained place.epoch place.item url × (url_bucket url ≡ bucket))
 
@@ -87,3 +94,23 @@ chained epoch item [] last list = (last, list)
 chained epoch item (url ∷ urls) last list = chained epoch (item + 1) urls
     (set last (url_bucket url) (Some (record { epoch = epoch; item = item })))
     (list ++ get_or last (url_bucket url) None ∷ [])
+
+-- a start after an epoch has a content URL of this key
+abbrev pub url_stale : List Start → ℕ → KeyParts → Bool
+url_stale starts begun key = list_any (λ start. nat_lt begun start.epoch
+    && list_any (url_hits key) start.selection.content_urls) starts
+
+-- a start after an epoch hits by a pattern or a ccid
+abbrev pub other_stale : List Start → ℕ → KeyParts → Option (List ℕ) → Bool
+other_stale starts begun key ccid = list_any (λ start. nat_lt begun start.epoch
+    && (list_any (pattern_hits key) start.selection.content_patterns || list_any (is_ccid ccid) start.selection.ccids))
+    starts
+
+-- there are places for so many starts
+abbrev pub HasRoom : Chains → ℕ → Type 0
+HasRoom chains n = (n ≤ deque_capacity chains.starts - deque_len chains.starts)
+    × (n ≤ deque_capacity chains.links - deque_len chains.links)
+
+-- the chains hold all content URLs of the known starts after an epoch
+abbrev pub IsWhole : Chains → ℕ → ℕ → Type 0
+IsWhole chains newest unchained = AreChained chains.starts.items chains.links.items chains.last.items newest unchained

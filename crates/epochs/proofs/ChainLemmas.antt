@@ -1,17 +1,17 @@
 -- The chains of URLs: where a start is added, where starts are forgotten, and where a chain is followed.
-use Rattle.std.proofs.Common.{◌≡◌, ℕ, zero, suc, ◌+◌, ◌-◌, ◌*◌, ◌^◌, ◌<◌, ◌≤◌, Bool, true, false, cond, ◌&&◌, ◌||◌, nat_lt, List, [], ◌∷◌, ◌++◌, length, drop, get_or, set, slice_get, IfSome, refl, sym, ap, ◌∙◌, subst, inl, inr, Option, None, Some, arith, length-append, length-drop, length-set, replicate, take, append-nil, max}
+use Rattle.std.proofs.Common.{◌≡◌, ℕ, zero, suc, ◌+◌, ◌-◌, ◌^◌, ◌<◌, ◌≤◌, Bool, true, false, ◌&&◌, ◌||◌, nat_lt, List, [], ◌∷◌, ◌++◌, length, drop, get_or, set, slice_get, IfSome, refl, sym, ap, ◌∙◌, subst, inl, inr, Option, None, Some, arith, length-drop, length-set, replicate, take, append-nil, max}
 use Rattle.std.specs.Prelude.{◌⊎◌}
 use Rattle.std.specs.List.{list_any}
-use Rattle.std.proofs.lemmas.Bool.{cases_Bool, cases_lt, cases_eq, cond-true, ltb-true, lt-ltb, le-ltb, or_parts, or_left, or_right, or_from, and_from, both_ways}
+use Rattle.std.proofs.lemmas.Bool.{cases_Bool, cases_lt, cases_eq, ltb-true, lt-ltb, or_left, or_right, or_from, and_from}
 use Rattle.std.proofs.lemmas.Option.{none-some, same_Some, slice_get_within, slice_get-get_or}
 use Rattle.std.proofs.lemmas.List.{length_push, length-replicate, drop_all, drop-drop, take_all}
-use Rattle.cdni_base.specs.Key.{KeyParts, key_of, same_key}
+use Rattle.cdni_base.specs.Key.{KeyParts, key_of}
 use Rattle.cdni_base.specs.KeyEqualityLemmas.{key_decides}
 use Rattle.trigger_command.specs.Selection.{hits, is_ccid, pattern_hits, url_hits}
 use Rattle.trigger_command.specs.declared.selection.Selection.{Selection}
 use Rattle.trigger_command.specs.declared.selection.UrlItem.{UrlItem}
 use Rattle.epochs.specs.declared.chains.Chains.{Chains}
-use Rattle.epochs.specs.Chains.{IsWhole, AreChained, AreNumbered, IsLast, IsUpTo, IsUrl, PlaceList, bucket_of, chained, forgotten_of, mixed, place_rank, rank, url_bucket, url_stale, other_stale}
+use Rattle.epochs.specs.Chains.{IsWhole, AreChained, AreNumbered, IsLast, IsUrl, PlaceList, bucket_of, chained, forgotten_of, place_rank, rank, url_bucket, url_stale, other_stale}
 use Rattle.epochs.specs.EpochsList.{behind_front, is_front_up_to, is_stale, next_start}
 use Rattle.epochs.proofs.EpochsLemmas.{front_goes}
 use Rattle.epochs.specs.declared.chains.Place.{Place}

@@ -48,8 +48,8 @@ abbrev pub IsUpTo : ℕ → Option Place → Type 0
 IsUpTo number None = ⊥
 IsUpTo number (Some place) = number ≤ place_rank place
 
--- This is the last place below this one of a URL in this bucket: no other such place is above it, and where its start is
--- known and in a chain, there is a URL, and it is in the bucket.
+-- This is the last place below this one of a URL in this bucket: no other such place is above it, and where its start
+-- is known and in a chain, there is a URL, and it is in the bucket.
 pub record IsLast (starts : List Start) (forgotten unchained bucket bound : ℕ) (last : Option Place) : Type 0 where
   pub none_above : (epoch item : ℕ) (url : UrlItem) → IsUrl starts unchained epoch item url → url_bucket url ≡ bucket
       → rank epoch item < bound → IsUpTo (rank epoch item) last

@@ -1,5 +1,6 @@
 -- Starts and their epochs.
-use Rattle.std.specs.Prelude.{ℕ, ◌+◌, ◌<◌, ◌≤◌, max, Bool, List, [], ◌∷◌, ◌++◌, filter, fold, nat_lt, nat_le, ◌&&◌, false}
+use Rattle.std.specs.Prelude.{ℕ, ◌+◌, ◌<◌, ◌≤◌, max, Bool, List, []}
+use Rattle.std.specs.Prelude.{◌∷◌, ◌++◌, filter, fold, nat_lt, nat_le, ◌&&◌, false}
 use Rattle.std.specs.Prelude.{if◌then◌else◌}
 use Rattle.std.specs.List.{Any, list_any}
 use Rattle.std.specs.declared.option.Option.{Option}
@@ -17,7 +18,8 @@ IsStale starts begun key ccid = Any (λ start. (begun < start.epoch) × Hits sta
 abbrev pub is_stale : List Start → ℕ → KeyParts → Option (List ℕ) → Bool
 is_stale starts begun key ccid = list_any (λ start. nat_lt begun start.epoch && hits start.selection key ccid) starts
 
--- the last epoch, the greatest number up to which starts were forgotten, and the starts that are known, the oldest first
+-- the last epoch, the greatest number up to which starts were forgotten, and the starts that are known, the oldest
+-- first
 pub record Known : Type 0 where
   pub newest : ℕ
   pub settled : ℕ

@@ -1,12 +1,14 @@
 //! Starts, and chains of their content URLs, by which those of one host, port and path are found.
 
-ghost use Rattle.std.specs.Prelude.{◌≡◌, ◌+◌, ◌-◌, ◌<◌, ◌≤◌, ◌^◌, ◌∷◌, ◌++◌, ◌||◌, [], length, slice_get, ℕ, IfOk, OnOk, Some};
+ghost use Rattle.std.specs.Prelude.{◌≡◌, ◌+◌, ◌-◌, ◌<◌, ◌≤◌, ◌^◌, ◌∷◌, ◌++◌};
+ghost use Rattle.std.specs.Prelude.{◌||◌, [], length, slice_get, ℕ, IfOk, OnOk, Some};
 ghost use Rattle.std.specs.Option.{option_map};
 ghost use Rattle.std.specs.List.{list_any};
 ghost use Rattle.std.specs.Vec.{vec_capacity};
 ghost use Rattle.std.specs.VecDeque.{deque_capacity, deque_len};
 ghost use Rattle.epochs.specs.declared.epochs_list.Start.{Start};
-ghost use Rattle.epochs.specs.Chains.{PlaceList, IsWhole, HasRoom, bucket_of, chained, mixed, url_bucket, url_stale, other_stale};
+ghost use Rattle.epochs.specs.Chains.{PlaceList, IsWhole, HasRoom, bucket_of};
+ghost use Rattle.epochs.specs.Chains.{chained, mixed, url_bucket, url_stale, other_stale};
 ghost use Rattle.epochs.specs.EpochsList.{behind_front, is_front_up_to, is_stale, next_start};
 ghost use Rattle.trigger_command.specs.Selection.{is_ccid, pattern_hits, url_hits};
 ghost use Rattle.trigger_command.specs.declared.selection.UrlItem.{UrlItem};
@@ -31,8 +33,8 @@ pub(crate) struct Place {
 /// For each content URL of a start the place of the one before it in its bucket, where there is one.
 pub(crate) type PlaceList = Vec<Option<Place>>;
 
-/// The starts that are known, the oldest first, with the places before their content URLs, and for each bucket of URLs the
-/// place of the last one.
+/// The starts that are known, the oldest first, with the places before their content URLs, and for each bucket of
+/// URLs the place of the last one.
 #[derive(Drop)]
 pub(crate) struct Chains {
     pub(crate) starts: VecDeque<Start>,
@@ -65,19 +67,20 @@ impl Chains {
         self.links.reserve(n)
     }
 
-    /// Adds a start at a place that is there. Its URLs are put into the chains where the list has room for them; it tells
-    /// the last epoch whose start is in no chain.
+    /// Adds a start at a place that is there. Its URLs are put into the chains where the list has room for them; it
+    /// tells the last epoch whose start is in no chain.
     pub(crate) fn add(&mut self, newest: u64, selection: Selection, list: PlaceList, unchained: u64) -> u64
         requires room { HasRoom self.old 1 }
         requires few { newest < 2 ^ 63 }
         requires whole { IsWhole self.old newest unchained }
         requires before { unchained ≤ newest }
-        requires none { list.items ≡ [] }
         ensures starts { self.new.starts.items ≡ self.old.starts.items ++ next_start newest selection ∷ [] }
         ensures whole { IsWhole self.new (newest + 1) result }
         ensures within { result ≤ newest + 1 }
         ensures room { (n : ℕ) → HasRoom self.old (n + 1) → HasRoom self.new n }
     {
+        let mut list = list;
+        list.clear();
         if selection.content_urls.len() > list.capacity() {
             self.add_unchained(newest, selection, list);
             return newest + 1;

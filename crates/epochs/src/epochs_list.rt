@@ -1,19 +1,18 @@
 //! Starts and their epochs.
 
-ghost use Rattle.std.specs.Prelude.{◌≡◌, ◌↔◌, ◌+◌, ◌^◌, ◌<◌, ◌≤◌, ◌||◌, ◌++◌, ◌∷◌, [], ℕ, List, IfOk, OnOk, OnErr, IsTrue, false, Option};
+ghost use Rattle.std.specs.Prelude.{◌≡◌, ◌↔◌, ◌+◌, ◌^◌, ◌<◌, ◌≤◌, ◌||◌, ◌++◌, ◌∷◌};
+ghost use Rattle.std.specs.Prelude.{[], ℕ, List, IfOk, OnOk, OnErr, IsTrue, false, Option};
 ghost use Rattle.std.specs.Option.{option_map};
-ghost use Rattle.std.specs.VecDeque.{deque_len, deque_capacity};
 ghost use Rattle.cdni_base.specs.Key.{KeyParts};
 ghost use Rattle.epochs.specs.EpochsList.{IsStale, is_stale, nothing, after, begins, forgets};
-ghost use Rattle.epochs.specs.EpochsList.{behind_front, is_front_up_to};
 ghost use Rattle.trigger_command.specs.Selection.{hits};
 
+use crate::chains::{Chains, PlaceList};
 use cdni_base::Key;
 use listing::Text;
 use std::alloc::{AllocError, Global};
-use std::collections::VecDeque;
 use std::marker::Model;
-use trigger_command::Selection;
+use trigger_command::{SELECTION_MAX, Selection};
 
 /// The start of an invalidate or a purge: its epoch, and what it takes back.
 #[derive(Drop)]
@@ -22,30 +21,34 @@ pub struct Start {
     pub selection: Selection,
 }
 
-/// The starts of invalidates and purges, of which the oldest can be forgotten. The first start has epoch 1, and each later
-/// one an epoch more. It is seen as what is known, and for how many starts there are places.
+/// The starts of invalidates and purges, of which the oldest can be forgotten. The first start has epoch 1, and
+/// each later one an epoch more. It is seen as what is known, and for how many starts there are places.
 #[derive(Drop)]
 pub struct Epochs {
-    starts: VecDeque<Start>,
+    chains: Chains,
+    spare: Vec<PlaceList>,
     newest: u64,
     settled: u64,
-    spare: usize,
+    unchained: u64,
 }
 
 impl Model for Epochs {
-    ghost use Rattle.std.specs.Prelude.{◌≤◌, ◌-◌};
-    ghost use Rattle.std.specs.VecDeque.{deque_len, deque_capacity};
+    ghost use Rattle.std.specs.Prelude.{◌≤◌};
+    ghost use Rattle.std.specs.Vec.{vec_len};
+    ghost use Rattle.epochs.specs.Chains.{HasRoom, IsWhole};
     ghost use Rattle.epochs.specs.EpochsList.{AreRising, EpochsView};
 
     ghost Value = { EpochsView };
 
     ghost view = { λ e. record {
-      known = record { newest = e.newest; settled = e.settled; starts = e.starts.items };
-      spare = e.spare;
+      known = record { newest = e.newest; settled = e.settled; starts = e.chains.starts.items };
+      spare = vec_len e.spare;
     } };
 
-    ghost invariant = { λ e. (e.spare ≤ deque_capacity e.starts - deque_len e.starts)
-        × AreRising e.settled e.newest e.starts.items };
+    ghost invariant = { λ e. HasRoom e.chains (vec_len e.spare)
+        × AreRising e.settled e.newest e.chains.starts.items
+        × IsWhole e.chains e.newest e.unchained
+        × (e.unchained ≤ e.newest) };
 }
 
 impl Epochs {
@@ -57,10 +60,11 @@ impl Epochs {
         ensures { IfOk result (λ epochs. epochs ≡ record { known = nothing; spare = 0 }) }
     {
         Ok(Epochs {
-            starts: VecDeque::with_capacity(alloc, 0)?,
+            chains: Chains::new(alloc)?,
+            spare: Vec::with_capacity(alloc, 0)?,
             newest: 0,
             settled: 0,
-            spare: 0,
+            unchained: 0,
         })
     }
 
@@ -77,7 +81,7 @@ impl Epochs {
     ///
     /// # Errors
     /// Want of memory, and then nothing has changed.
-    pub fn start(&mut self, _alloc: Global, selection: Selection) -> Result<u64, AllocError>
+    pub fn start(&mut self, alloc: Global, selection: Selection) -> Result<u64, AllocError>
         requires { self.old.known.newest ≤ 2 ^ 62 }
         ensures epoch { IfOk result (λ epoch. epoch ≡ self.old.known.newest + 1) }
         ensures known { OnOk result (self.new.known ≡ after self.old.known (begins selection)) }
@@ -87,8 +91,9 @@ impl Epochs {
         ensures spare { self.new.spare ≡ self.old.spare }
         ensures err { OnErr result (self.new ≡ self.old) }
     {
-        self.starts.reserve(self.spare + 1)?;
-        push(&mut self.starts, self.newest + 1, selection);
+        let list = Vec::with_capacity(alloc, selection.content_urls.len())?;
+        self.chains.reserve(self.spare.len() + 1)?;
+        self.unchained = self.chains.add(self.newest, selection, list, self.unchained);
         self.newest += 1;
         Ok(self.newest)
     }
@@ -97,17 +102,18 @@ impl Epochs {
     ///
     /// # Errors
     /// Want of memory, and then nothing has changed.
-    pub fn reserve(&mut self, _alloc: Global) -> Result<(), AllocError>
+    pub fn reserve(&mut self, alloc: Global) -> Result<(), AllocError>
         ensures places { OnOk result (0 < self.new.spare) }
         ensures known { self.new.known ≡ self.old.known }
         ensures no_fewer { self.old.spare ≤ self.new.spare }
         ensures err { OnErr result (self.new ≡ self.old) }
     {
-        if self.spare > 0 {
+        if !self.spare.is_empty() {
             return Ok(());
         }
-        self.starts.reserve(1)?;
-        self.spare = 1;
+        let list = Vec::with_capacity(alloc, SELECTION_MAX)?;
+        self.chains.reserve(1)?;
+        self.spare.push(list)?;
         Ok(())
     }
 
@@ -122,9 +128,9 @@ impl Epochs {
             ≡ (is_stale self.old.known.starts begun key ccid || hits selection key ccid) }
         ensures spare { self.new.spare + 1 ≡ self.old.spare }
     {
-        push(&mut self.starts, self.newest + 1, selection);
+        let list = self.spare.pop().unwrap();
+        self.unchained = self.chains.add(self.newest, selection, list, self.unchained);
         self.newest += 1;
-        self.spare -= 1;
         self.newest
     }
 
@@ -136,7 +142,7 @@ impl Epochs {
         ensures relation { IsTrue result ↔ IsStale self.now.known.starts begun key.now
             (option_map (λ text. text.now) ccid.entry) }
     {
-        is_hit_since(&self.starts, begun, key, ccid)
+        self.chains.is_hit_since(self.newest, self.unchained, begun, key, ccid)
     }
 
     /// Forgets the starts up to this epoch. For what began at it or later nothing changes.
@@ -147,47 +153,7 @@ impl Epochs {
             → is_stale self.new.known.starts begun key ccid ≡ is_stale self.old.known.starts begun key ccid }
         ensures spare { self.new.spare ≡ self.old.spare }
     {
-        forget(&mut self.starts, oldest);
+        self.chains.forget(oldest);
         self.settled = self.settled.max(oldest);
-    }
-}
-
-// adds a start at a place that is there
-fn push(starts: &mut VecDeque<Start>, epoch: u64, selection: Selection)
-    requires { deque_len starts.old < deque_capacity starts.old }
-    ensures items { starts.new.items ≡ starts.old.items ++ record { epoch = epoch; selection = selection } ∷ [] }
-    ensures len { deque_len starts.new ≡ deque_len starts.old + 1 }
-    ensures capacity { deque_capacity starts.new ≡ deque_capacity starts.old }
-{
-    starts.push_back_reserved(Start { epoch, selection });
-}
-
-// whether a start after this epoch hits
-fn is_hit_since(starts: &VecDeque<Start>, begun: u64, key: &Key, ccid: Option<&Text>) -> bool
-    ensures { result ≡ is_stale starts.now.items begun key.now (option_map (λ text. text.now) ccid.entry) }
-{
-    starts
-        .iter()
-        .any(|start| begun < start.epoch && start.selection.hits(key, ccid))
-}
-
-// takes the starts up to this epoch off the front
-fn forget(starts: &mut VecDeque<Start>, oldest: u64)
-    ensures items { starts.new.items ≡ behind_front oldest starts.old.items }
-    ensures len { deque_len starts.new ≤ deque_len starts.old }
-    ensures capacity { deque_capacity starts.new ≡ deque_capacity starts.old }
-{
-    'starts: while is_front_forgotten(starts, oldest) {
-        starts.pop_front();
-    }
-}
-
-// whether the first start has at most this epoch
-fn is_front_forgotten(starts: &VecDeque<Start>, oldest: u64) -> bool
-    ensures { result ≡ is_front_up_to oldest starts.now.items }
-{
-    match starts.front() {
-        Some(start) => start.epoch <= oldest,
-        None => false,
     }
 }

@@ -1,4 +1,4 @@
-use Rattle.std.proofs.Common.{◌∙◌, rules, sym}
+use Rattle.std.proofs.Common.{rules}
 use Rattle.epochs.proofs.ChainLemmas.{chained_more, written_back}
 use Rattle.epochs.proofs.chains.Chains.add_chained.Goals as goal
 

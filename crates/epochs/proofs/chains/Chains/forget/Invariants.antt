@@ -1,4 +1,4 @@
-use Rattle.std.proofs.Common.{◌≡◌, ◌≤◌, ℕ, drop, length}
+use Rattle.std.proofs.Common.{◌≡◌}
 use Rattle.std.specs.VecDeque.{deque_len, deque_capacity}
 use Rattle.epochs.specs.EpochsList.{behind_front}
 use Rattle.epochs.proofs.ChainLemmas.{IsCut}

@@ -1,5 +1,3 @@
-use Rattle.std.proofs.Common.{◌≡◌, ◌≤◌, ℕ, length}
-use Rattle.epochs.specs.Chains.{IsWhole, bucket_of}
 use Rattle.epochs.proofs.ChainLemmas.{IsFollowed, next_rank}
 use Rattle.epochs.proofs.chains.Chains.has_url_since.Given as goal
 

@@ -3,7 +3,7 @@ use Rattle.std.specs.Option.{option_map}
 use Rattle.std.specs.Borrow.{Bor}
 use Rattle.listing.specs.declared.text.Text.{Text}
 use Rattle.epochs.proofs.ChainLemmas.{chained_higher, stale_parts}
-use Rattle.epochs.specs.Chains.{url_stale, other_stale}
+use Rattle.epochs.specs.Chains.{other_stale}
 use Rattle.epochs.proofs.chains.Chains.is_hit_since.Goals as goal
 
 pub has_url_since-requires : goal.has_url_since-requires

@@ -7,4 +7,5 @@ pub mod OpenLemmas
 pub mod RefreshLemmas
 pub mod RequestLemmas
 pub mod SessionLemmas
+pub mod TellingLemmas
 pub mod TurnLemmas

@@ -11,4 +11,5 @@ pub mod Open
 pub mod Refresh
 pub mod Request
 pub mod Session
+pub mod Telling
 pub mod Turn

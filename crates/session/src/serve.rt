@@ -11,7 +11,10 @@ ghost use Rattle.session.specs.Session.{Leaves, Session};
 use crate::answer_room::AnswerRoom;
 use crate::content::fall_short;
 use crate::ending::{Ending, Next};
-use crate::law::what_is_opened_is_ended;
+use crate::law::{
+    a_fetch_that_brings_nothing_is_a_bad_gateway, the_end_of_a_delivery_tells_what_was_written,
+    what_is_opened_is_ended,
+};
 use crate::settings::{Peer, Settings};
 use crate::turn::serve_one;
 use edge_base::{Clock, Sink, Source};
@@ -61,6 +64,8 @@ pub fn serve_session<R: Threads + Wait + Sync, H: Home, S: Source, K: Sink, G: G
 {
     every_answer_is_lawful();
     what_is_opened_is_ended();
+    the_end_of_a_delivery_tells_what_was_written();
+    a_fetch_that_brings_nothing_is_a_bad_gateway();
     let Ok((mut inbox, mut room)) = make_room(alloc) else {
         return match fall_short(sink) {
             Next::Stops(ending) => ending,

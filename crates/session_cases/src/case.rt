@@ -9,7 +9,7 @@ use history::{Call, Reply};
 use node_core::{Home, Node, OneHome};
 use serde_json::Value;
 use session::Settings;
-use std::alloc::Global;
+use std::alloc::{AllocError, Global};
 use std::sync::Wait;
 use std::thread::Threads;
 use upstream_gate::{Got, MemoryGate, Outcome, OutcomeList};
@@ -118,31 +118,74 @@ fn home_of(alloc: Global, case: &Value) -> anyhow::Result<TellingHome<OneHome>> 
     })
 }
 
-// Whether the rows of the deliveries are cut into the file that was to be made.
+// The number of the log file that was made, if one was.
+fn made_file(reply: &Reply) -> Option<u64> {
+    match reply {
+        Reply::File { number } => Some(*number),
+        _ => None,
+    }
+}
+
+// Whether the reply is this text of a log file.
+fn is_log(reply: &Reply, bytes: &[u8]) -> bool {
+    match reply {
+        Reply::LogText { text } => text.is(bytes),
+        _ => false,
+    }
+}
+
+// Cuts the rows of the deliveries into a file; its number, if one is made.
+fn cut<R: Threads + Wait + Sync>(
+    rt: &R,
+    alloc: Global,
+    home: &mut TellingHome<OneHome>,
+    moment: u64,
+) -> Result<Option<u64>, AllocError> {
+    home.lines.clear();
+    let reply = home.call(rt, alloc, Call::Cut { moment })?;
+    Ok(made_file(&reply))
+}
+
+// Whether the log file of this number has these bytes.
+fn has_log<R: Threads + Wait + Sync>(
+    rt: &R,
+    alloc: Global,
+    home: &mut TellingHome<OneHome>,
+    number: u64,
+    bytes: &[u8],
+) -> Result<bool, AllocError> {
+    let reply = home.call(rt, alloc, Call::LogFile { number })?;
+    Ok(is_log(&reply, bytes))
+}
+
+// Whether the rows of the deliveries are not cut into the file that was to be made.
 fn cuts_otherwise<R: Threads + Wait + Sync>(
     rt: &R,
     alloc: Global,
     home: &mut TellingHome<OneHome>,
     case: &Value,
 ) -> anyhow::Result<bool> {
-    let cut = field::get(case, "cut")?;
-    home.lines.clear();
-    let moment = field::number(cut, "moment")?;
-    let reply = home.call(rt, alloc, Call::Cut { moment })?;
-    let mut told = Vec::new(alloc);
-    told.extend_from_slice(b"other: ")?;
-    told.extend_from_slice(&field::bytes(alloc, cut, "reply")?)?;
-    told.extend_from_slice(b"\n")?;
-    if home.lines != told {
+    let told = field::get(case, "cut")?;
+    let number = cut(rt, alloc, home, field::number(told, "moment")?)?;
+    if home.lines.as_slice() != told_cut(alloc, told)?.as_slice() {
         return Ok(true);
     }
-    let Reply::File { number } = reply else {
-        return Ok(!field::get(case, "log")?.is_null());
-    };
-    match home.call(rt, alloc, Call::LogFile { number })? {
-        Reply::LogText { text } => Ok(!text.is(&field::bytes(alloc, case, "log")?)),
-        _ => Ok(true),
+    let log = field::get(case, "log")?;
+    match number {
+        Some(number) => {
+            let bytes = field::bytes_of(alloc, log)?;
+            Ok(!has_log(rt, alloc, home, number, &bytes)?)
+        }
+        None => Ok(!log.is_null()),
     }
+}
+
+// The line with which the cut is to be answered.
+fn told_cut(alloc: Global, told: &Value) -> anyhow::Result<Vec<u8>> {
+    let mut line = Vec::from_slice(alloc, b"other: ")?;
+    line.extend_from_slice(&field::bytes(alloc, told, "reply")?)?;
+    line.extend_from_slice(b"\n")?;
+    Ok(line)
 }
 
 // Runs a case; in what it differs from what was to pass, if it does.

@@ -127,7 +127,8 @@ module _ (n : ℕ) (starts : List Start) (newest unchained : ℕ) (long : length
   last_kept bucket bound None is = record { none_above = λ epoch item url u. is.none_above epoch item url (url_back epoch item url u); below = tt; fits = tt; there = tt }
   last_kept bucket bound (Some place) is = record {
     none_above = λ epoch item url u. is.none_above epoch item url (url_back epoch item url u);
-    below = is.below; fits = is.fits;
+    below = is.below;
+    fits = is.fits;
     there = λ after chained. let more = forgotten_more in let u = is.there (omega (arith, after, more)) chained in (u.0, url_kept place.epoch place.item u.0 after u.1, u.2);
   }
 
@@ -139,8 +140,8 @@ chained_left n starts links last newest unchained within so = record {
   buckets = so.buckets;
   fits = λ k start is. so.fits (n + k) start (sym (get_dropped n k (n + k) starts refl) ∙ is);
   each = λ k item start list url is also chained there.
-    let old = so.each (n + k) item start list url (sym (get_dropped n k (n + k) starts refl) ∙ is) (sym (get_dropped n k (n + k) links refl) ∙ also) chained there in
-    (old.0, old.1, last_kept n starts newest unchained so.long within so.numbered (url_bucket url) (rank start.epoch item) old.0 old.2);
+      let old = so.each (n + k) item start list url (sym (get_dropped n k (n + k) starts refl) ∙ is) (sym (get_dropped n k (n + k) links refl) ∙ also) chained there in
+      (old.0, old.1, last_kept n starts newest unchained so.long within so.numbered (url_bucket url) (rank start.epoch item) old.0 old.2);
   lasts = λ bucket place is. last_kept n starts newest unchained so.long within so.numbered bucket (rank (newest + 1) 0) place (so.lasts bucket place is);
 }
 
@@ -164,8 +165,15 @@ module _ (starts : List Start) (newest unchained : ℕ) (selection : Selection) 
   url_old epoch item url is = record { k = is.k; start = is.start; at = get_front starts (next_start newest selection ∷ []) is.k is.start is.at; epoch_is = is.epoch_is; chained = is.chained; within = is.within; there = is.there }
 
   url_new : (item : ℕ) (url : UrlItem) → slice_get selection.content_urls item ≡ Some url → IsUrl more unchained (newest + 1) item url
-  url_new item url is = record { k = length starts; start = next_start newest selection; at = get_last starts (next_start newest selection); epoch_is = refl; chained = omega (arith, before);
-    within = omega (arith, fits, within_list selection.content_urls item url is); there = is }
+  url_new item url is = record {
+    k = length starts;
+    start = next_start newest selection;
+    at = get_last starts (next_start newest selection);
+    epoch_is = refl;
+    chained = omega (arith, before);
+    within = omega (arith, fits, within_list selection.content_urls item url is);
+    there = is;
+  }
 
   url_either : (epoch item : ℕ) (url : UrlItem) → IsUrl more unchained epoch item url → IsUrl starts unchained epoch item url ⊎ ((epoch ≡ newest + 1) × (slice_get selection.content_urls item ≡ Some url))
   url_either epoch item url is = elim (get_either starts (next_start newest selection) is.start is.k is.at) [
@@ -180,7 +188,8 @@ module _ (starts : List Start) (newest unchained : ℕ) (selection : Selection) 
       | inl old ↦ is.none_above epoch item url old same below
       | inr new ↦ let now = new.0 in absurd (omega (arith, now, below, under))
     ];
-    below = is.below; fits = is.fits;
+    below = is.below;
+    fits = is.fits;
     there = there_before last is.there;
   }
     where
@@ -217,7 +226,8 @@ module _ (starts : List Start) (newest unchained : ℕ) (selection : Selection) 
           ]
       | inr apart ↦ is.none_above epoch item other u same (omega (arith, below, apart))
     ];
-    below = below_more place is.below; fits = is.fits;
+    below = below_more place is.below;
+    fits = is.fits;
     there = is.there;
   }
     where
@@ -239,10 +249,12 @@ module _ (starts : List Start) (newest unchained : ℕ) (selection : Selection) 
     | inr new ↦
         let same : item ≡ i = omega (arith, below, new) in
         let there : slice_get last (url_bucket url) ≡ Some (get_or last (url_bucket url) None) = slice_get-get_or last (url_bucket url) None (omega (arith, buckets, bucket_within url)) in
-        let one : url ≡ other = same_Some url other (sym at ∙ ap (slice_get selection.content_urls) (sym same) ∙ is) in
-        (get_or last (url_bucket url) None, ap (slice_get (list ++ get_or last (url_bucket url) None ∷ [])) (same ∙ sym count) ∙ get_last list (get_or last (url_bucket url) None),
-        subst (λ (u : UrlItem). IsLast more (forgotten_of starts newest) unchained (url_bucket u) (rank (newest + 1) item) (get_or last (url_bucket url) None)) one
-        (subst (λ n. IsLast more (forgotten_of starts newest) unchained (url_bucket url) (rank (newest + 1) n) (get_or last (url_bucket url) None)) (sym same) (right (url_bucket url) _ there)))
+        let one : url ≡ other = same_Some url other (sym at ∙ ap (slice_get selection.content_urls) (sym same) ∙ is) in (
+          get_or last (url_bucket url) None,
+          ap (slice_get (list ++ get_or last (url_bucket url) None ∷ [])) (same ∙ sym count) ∙ get_last list (get_or last (url_bucket url) None),
+          subst (λ (u : UrlItem). IsLast more (forgotten_of starts newest) unchained (url_bucket u) (rank (newest + 1) item) (get_or last (url_bucket url) None)) one
+              (subst (λ n. IsLast more (forgotten_of starts newest) unchained (url_bucket url) (rank (newest + 1) n) (get_or last (url_bucket url) None)) (sym same) (right (url_bucket url) _ there)),
+        )
   ]
 
   record Chained (last list : List (Option Place)) : Type 0 where
@@ -268,7 +280,7 @@ pub chained_more : (starts : List Start) (links : List PlaceList) (last : List (
     → AreChained (starts ++ next_start newest selection ∷ []) (links ++ list ∷ []) new (newest + 1) unchained
 chained_more starts links last newest unchained selection list new so before small is =
     let parts = chained_right starts newest unchained selection so.long so.numbered before small selection.content_urls 0 last [] refl (omega arith) refl so.buckets
-        (λ bucket place at. last_before starts newest unchained selection so.long so.numbered before small bucket (rank (newest + 1) 0) place (omega arith) (so.lasts bucket place at)) (λ item url below at. absurd (omega (arith, below))) in
+    (λ bucket place at. last_before starts newest unchained selection so.long so.numbered before small bucket (rank (newest + 1) 0) place (omega arith) (so.lasts bucket place at)) (λ item url below at. absurd (omega (arith, below))) in
     let same = same_forgotten starts newest unchained selection so.long so.numbered before small in
     let fresh : new ≡ (chained (newest + 1) 0 selection.content_urls last []).0 = ap (λ (p : List (Option Place) × List (Option Place)). p.0) is in
     let listed : list.items ≡ (chained (newest + 1) 0 selection.content_urls last []).1 = ap (λ (p : List (Option Place) × List (Option Place)). p.1) is in
@@ -282,26 +294,28 @@ chained_more starts links last newest unchained selection list new so before sma
         | inr here ↦ subst (λ (s : Start). length s.selection.content_urls < 2 ^ 64) here.1 small
       ];
       each = λ k item start other url at also chained there. subst (λ f. (p : Option Place) × (slice_get other.items item ≡ Some p) × IsLast (starts ++ next_start newest selection ∷ []) f unchained (url_bucket url) (rank start.epoch item) p) (sym same)
-        (elim (get_either starts (next_start newest selection) start k at) [
-          | inl old ↦ elim (get_either links list other k also) [
-            | inl link ↦
-                let p = so.each k item start other url old link chained there in
-                let b = start_between starts newest k start so.long so.numbered old in
-                let w : item < 2 ^ 64 = omega (arith, so.fits k start old, within_list start.selection.content_urls item url there) in
-                (p.0, p.1, last_before starts newest unchained selection so.long so.numbered before small (url_bucket url) (rank start.epoch item) p.0 (omega (arith, b.1, w)) p.2)
-            | inr end ↦ absurd (omega (arith, within_list starts k start old, end.0, so.as_many))
-          ]
-          | inr here ↦ elim (get_either links list other k also) [
-            | inl link ↦ absurd (omega (arith, within_list links k other link, here.0, so.as_many))
-            | inr end ↦
-                let there_now : slice_get selection.content_urls item ≡ Some url = ap (λ (s : Start). slice_get s.selection.content_urls item) here.1 ∙ there in
-                let p = parts.listed item url (within_list selection.content_urls item url there_now) there_now in
-                (p.0, ap (λ (l : PlaceList). slice_get l.items item) (sym end.1) ∙ ap (λ l. slice_get l item) listed ∙ p.1,
-                subst (λ (s : Start). IsLast (starts ++ next_start newest selection ∷ []) (forgotten_of starts newest) unchained (url_bucket url) (rank s.epoch item) p.0) here.1 p.2)
-          ]
-        ]);
+          (elim (get_either starts (next_start newest selection) start k at) [
+            | inl old ↦ elim (get_either links list other k also) [
+              | inl link ↦
+                  let p = so.each k item start other url old link chained there in
+                  let b = start_between starts newest k start so.long so.numbered old in
+                  let w : item < 2 ^ 64 = omega (arith, so.fits k start old, within_list start.selection.content_urls item url there) in
+                  (p.0, p.1, last_before starts newest unchained selection so.long so.numbered before small (url_bucket url) (rank start.epoch item) p.0 (omega (arith, b.1, w)) p.2)
+              | inr end ↦ absurd (omega (arith, within_list starts k start old, end.0, so.as_many))
+            ]
+            | inr here ↦ elim (get_either links list other k also) [
+              | inl link ↦ absurd (omega (arith, within_list links k other link, here.0, so.as_many))
+              | inr end ↦
+                  let there_now : slice_get selection.content_urls item ≡ Some url = ap (λ (s : Start). slice_get s.selection.content_urls item) here.1 ∙ there in
+                  let p = parts.listed item url (within_list selection.content_urls item url there_now) there_now in (
+                    p.0,
+                    ap (λ (l : PlaceList). slice_get l.items item) (sym end.1) ∙ ap (λ l. slice_get l item) listed ∙ p.1,
+                    subst (λ (s : Start). IsLast (starts ++ next_start newest selection ∷ []) (forgotten_of starts newest) unchained (url_bucket url) (rank s.epoch item) p.0) here.1 p.2,
+                  )
+            ]
+          ]);
       lasts = λ bucket place at. subst (λ f. IsLast (starts ++ next_start newest selection ∷ []) f unchained bucket (rank (newest + 1 + 1) 0) place) (sym same)
-        (at_end starts newest unchained selection so.long so.numbered before small bucket place (parts.right bucket place (ap (λ l. slice_get l bucket) (sym fresh) ∙ at)));
+          (at_end starts newest unchained selection so.long so.numbered before small bucket place (parts.right bucket place (ap (λ l. slice_get l bucket) (sym fresh) ∙ at)));
     }
   where
     at_end : (starts : List Start) (newest unchained : ℕ) (selection : Selection) → length starts ≤ newest → AreNumbered (forgotten_of starts newest) starts → unchained ≤ newest → length selection.content_urls < 2 ^ 64 → (bucket : ℕ) (place : Option Place)
@@ -312,7 +326,8 @@ chained_more starts links last newest unchained selection list new so before sma
         | inl old ↦ let b = epoch_between starts newest unchained long numbered epoch item url old in let w = u.within in omega (arith, b.1, w)
         | inr new ↦ let e = new.0 in omega (arith, e, within_list selection.content_urls item url new.1)
       ]);
-      below = below_more place is.below; fits = is.fits;
+      below = below_more place is.below;
+      fits = is.fits;
       there = is.there;
     }
       where
@@ -338,10 +353,10 @@ pub chained_none : (starts : List Start) (links : List PlaceList) (last : List (
 chained_none starts links last newest unchained selection list so small =
     let same : forgotten_of (starts ++ next_start newest selection ∷ []) (newest + 1) ≡ forgotten_of starts newest = (let long = so.long in omega (arith, length_push starts (next_start newest selection), long)) in
     let numbered : AreNumbered (forgotten_of (starts ++ next_start newest selection ∷ []) (newest + 1)) (starts ++ next_start newest selection ∷ []) =
-      subst (λ b. AreNumbered b (starts ++ next_start newest selection ∷ [])) (sym same) (numbered_more (forgotten_of starts newest) starts (next_start newest selection) so.numbered (let long = so.long in omega (arith, long))) in
+    subst (λ b. AreNumbered b (starts ++ next_start newest selection ∷ [])) (sym same) (numbered_more (forgotten_of starts newest) starts (next_start newest selection) so.numbered (let long = so.long in omega (arith, long))) in
     let long : length (starts ++ next_start newest selection ∷ []) ≤ newest + 1 = omega (arith, length_push starts (next_start newest selection), so.long) in
     let none : (epoch item : ℕ) (url : UrlItem) → IsUrl (starts ++ next_start newest selection ∷ []) (newest + 1) epoch item url → ⊥ =
-      (λ epoch item url u. let b = epoch_between (starts ++ next_start newest selection ∷ []) (newest + 1) (newest + 1) long numbered epoch item url u in let after = u.chained in omega (arith, b.1, after)) in
+    (λ epoch item url u. let b = epoch_between (starts ++ next_start newest selection ∷ []) (newest + 1) (newest + 1) long numbered epoch item url u in let after = u.chained in omega (arith, b.1, after)) in
     record {
       long = long;
       numbered = numbered;
@@ -368,7 +383,8 @@ module _ (starts : List Start) (unchained higher : ℕ) (above : unchained ≤ h
   last_higher forgotten bucket bound None is = record { none_above = λ epoch item url u. is.none_above epoch item url (url_lower epoch item url u); below = tt; fits = tt; there = tt }
   last_higher forgotten bucket bound (Some place) is = record {
     none_above = λ epoch item url u. is.none_above epoch item url (url_lower epoch item url u);
-    below = is.below; fits = is.fits;
+    below = is.below;
+    fits = is.fits;
     there = λ known after. let u = is.there known (omega (arith, above, after)) in (u.0, url_higher place.epoch place.item u.0 after u.1, u.2);
   }
 
@@ -380,7 +396,7 @@ chained_higher starts links last newest unchained higher above so = record {
   buckets = so.buckets;
   fits = so.fits;
   each = λ k item start list url at also after there. let p = so.each k item start list url at also (omega (arith, above, after)) there in
-    (p.0, p.1, last_higher starts unchained higher above (forgotten_of starts newest) (url_bucket url) (rank start.epoch item) p.0 p.2);
+      (p.0, p.1, last_higher starts unchained higher above (forgotten_of starts newest) (url_bucket url) (rank start.epoch item) p.0 p.2);
   lasts = λ bucket place at. last_higher starts unchained higher above (forgotten_of starts newest) bucket (rank (newest + 1) 0) place (so.lasts bucket place at);
 }
 
@@ -403,7 +419,7 @@ chained_nothing last is = record {
   fits = λ k start at. absurd (none-some start at);
   each = λ k item start list url at. absurd (none-some start at);
   lasts = λ bucket place at. subst (λ p. IsLast [] (forgotten_of [] 0) 0 bucket (rank (0 + 1) 0) p) (sym (all_none BUCKETS last is bucket place at))
-    (vacuous [] (forgotten_of [] 0) 0 bucket (rank (0 + 1) 0) None (λ epoch item url u. none-some u.start u.at) tt tt tt);
+      (vacuous [] (forgotten_of [] 0) 0 bucket (rank (0 + 1) 0) None (λ epoch item url u. none-some u.start u.at) tt tt tt);
 }
 
 -- ---- a chain is followed
@@ -444,7 +460,7 @@ stands starts links last newest unchained bucket bound place so is known after =
       before = before.0;
       before_is = before.1;
       last = subst (λ b. IsLast starts (forgotten_of starts newest) unchained b (place_rank place) before.0) found.2
-        (subst (λ e. IsLast starts (forgotten_of starts newest) unchained (url_bucket found.0) (rank e place.item) before.0) same before.2);
+          (subst (λ e. IsLast starts (forgotten_of starts newest) unchained (url_bucket found.0) (rank e place.item) before.0) same before.2);
     }
 
 -- no URL of the bucket at this place or above it has the key

@@ -20,8 +20,9 @@ start_decides begun key ccid start = Decides-and _ _ (Decides-ltb begun start.ep
 pub stale_decides : (starts : List Start) (begun : ℕ) (key : KeyParts) (ccid : Option (List ℕ)) → Decides (is_stale starts begun key ccid) (IsStale starts begun key ccid)
 stale_decides starts begun key ccid = (
   λ e. let found = Any-from_list_any (λ start. nat_lt begun start.epoch && hits start.selection key ccid) starts e in
-    (found.0, found.1, found.2, found.3, (start_decides begun key ccid found.1).0 found.4),
-  λ found. list_any-from_Any (λ start. nat_lt begun start.epoch && hits start.selection key ccid) starts (found.0, found.1, found.2, found.3, (start_decides begun key ccid found.1).1 found.4))
+      (found.0, found.1, found.2, found.3, (start_decides begun key ccid found.1).0 found.4),
+  λ found. list_any-from_Any (λ start. nat_lt begun start.epoch && hits start.selection key ccid) starts (found.0, found.1, found.2, found.3, (start_decides begun key ccid found.1).1 found.4),
+)
 
 -- ---- one start more
 

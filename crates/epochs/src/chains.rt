@@ -69,7 +69,13 @@ impl Chains {
 
     /// Adds a start at a place that is there. Its URLs are put into the chains where the list has room for them; it
     /// tells the last epoch whose start is in no chain.
-    pub(crate) fn add(&mut self, newest: u64, selection: Selection, list: PlaceList, unchained: u64) -> u64
+    pub(crate) fn add(
+        &mut self,
+        newest: u64,
+        selection: Selection,
+        list: PlaceList,
+        unchained: u64,
+    ) -> u64
         requires room { HasRoom self.old 1 }
         requires few { newest < 2 ^ 63 }
         requires whole { IsWhole self.old newest unchained }
@@ -104,7 +110,12 @@ impl Chains {
     {
         let mut list = list;
         let epoch = newest + 1;
-        chain(&mut self.last, &mut list, epoch, selection.content_urls.as_slice());
+        chain(
+            &mut self.last,
+            &mut list,
+            epoch,
+            selection.content_urls.as_slice(),
+        );
         self.starts.push_back_reserved(Start { epoch, selection });
         self.links.push_back_reserved(list);
     }
@@ -220,18 +231,14 @@ fn is_front_forgotten(starts: &VecDeque<Start>, oldest: u64) -> bool
 fn is_one_hit_since(starts: &VecDeque<Start>, begun: u64, key: &Key, ccid: Option<&Text>) -> bool
     ensures { result ≡ is_stale starts.now.items begun key.now (option_map (λ text. text.now) ccid.entry) }
 {
-    starts
-        .iter()
-        .any(|start| begun < start.epoch && start.selection.hits(key, ccid))
+    starts.iter().any(|start| begun < start.epoch && start.selection.hits(key, ccid))
 }
 
 // whether a start after this epoch hits by a pattern or a ccid
 fn is_other_hit_since(starts: &VecDeque<Start>, begun: u64, key: &Key, ccid: Option<&Text>) -> bool
     ensures { result ≡ other_stale starts.now.items begun key.now (option_map (λ text. text.now) ccid.entry) }
 {
-    starts
-        .iter()
-        .any(|start| begun < start.epoch && is_other_hit(&start.selection, key, ccid))
+    starts.iter().any(|start| begun < start.epoch && is_other_hit(&start.selection, key, ccid))
 }
 
 fn is_other_hit(selection: &Selection, key: &Key, ccid: Option<&Text>) -> bool
@@ -286,16 +293,15 @@ fn url_bucket(url: &UrlItem) -> usize
     ensures value { result ≡ url_bucket url.now }
     ensures within { result < BUCKETS }
 {
-    bucket_of(url.target.host.bytes(), url.target.port, url.target.path.bytes())
+    bucket_of(
+        url.target.host.bytes(),
+        url.target.port,
+        url.target.path.bytes(),
+    )
 }
 
 // puts each URL of a start at the end of its bucket's chain, and lists the places of the URLs before them
-fn chain(
-    last: &mut [Option<Place>],
-    list: &mut Vec<Option<Place>>,
-    epoch: u64,
-    urls: &[UrlItem],
-)
+fn chain(last: &mut [Option<Place>], list: &mut Vec<Option<Place>>, epoch: u64, urls: &[UrlItem])
     requires buckets { length last.old ≡ BUCKETS }
     requires room { length urls.now ≤ vec_capacity list.old }
     requires none { list.old.items ≡ [] }

@@ -93,7 +93,9 @@ impl Epochs {
     {
         let list = Vec::with_capacity(alloc, selection.content_urls.len())?;
         self.chains.reserve(self.spare.len() + 1)?;
-        self.unchained = self.chains.add(self.newest, selection, list, self.unchained);
+        self.unchained = self
+            .chains
+            .add(self.newest, selection, list, self.unchained);
         self.newest += 1;
         Ok(self.newest)
     }
@@ -129,7 +131,9 @@ impl Epochs {
         ensures spare { self.new.spare + 1 ≡ self.old.spare }
     {
         let list = self.spare.pop().unwrap();
-        self.unchained = self.chains.add(self.newest, selection, list, self.unchained);
+        self.unchained = self
+            .chains
+            .add(self.newest, selection, list, self.unchained);
         self.newest += 1;
         self.newest
     }
@@ -142,7 +146,8 @@ impl Epochs {
         ensures relation { IsTrue result ↔ IsStale self.now.known.starts begun key.now
             (option_map (λ text. text.now) ccid.entry) }
     {
-        self.chains.is_hit_since(self.newest, self.unchained, begun, key, ccid)
+        self.chains
+            .is_hit_since(self.newest, self.unchained, begun, key, ccid)
     }
 
     /// Forgets the starts up to this epoch. For what began at it or later nothing changes.

@@ -21,7 +21,7 @@ is_of-requires-clause-start c =
     let f = subst (IsFollowed c.args.self.now c.args.newest c.args.begun c.args.key.now) c.in-Some.is c.places.invariant in
     let len : length c.args.self.now.starts.items ≡ c.len.result = search rules in
     let here = followed_here c.args.self.now c.args.newest c.args.begun (c.args.newest - c.len.result) c.args.key.now c.in-Some.place (omega (arith, len)) f
-      (omega (arith, c.if-place-oldest.false, c.max-oldest.ensures)) (omega (arith, c.if-place-oldest.false, c.max-oldest.ensures)) in
+    (omega (arith, c.if-place-oldest.false, c.max-oldest.ensures)) (omega (arith, c.if-place-oldest.false, c.max-oldest.ensures)) in
     slice_get_within c.args.self.now.starts.items _ here.start here.at
 
 pub is_of-requires-clause-url : goal.is_of-requires-clause-url
@@ -29,7 +29,7 @@ is_of-requires-clause-url c start at =
     let f = subst (IsFollowed c.args.self.now c.args.newest c.args.begun c.args.key.now) c.in-Some.is c.places.invariant in
     let len : length c.args.self.now.starts.items ≡ c.len.result = search rules in
     let here = followed_here c.args.self.now c.args.newest c.args.begun (c.args.newest - c.len.result) c.args.key.now c.in-Some.place (omega (arith, len)) f
-      (omega (arith, c.if-place-oldest.false, c.max-oldest.ensures)) (omega (arith, c.if-place-oldest.false, c.max-oldest.ensures)) in
+    (omega (arith, c.if-place-oldest.false, c.max-oldest.ensures)) (omega (arith, c.if-place-oldest.false, c.max-oldest.ensures)) in
     subst (λ (s : Start). c.in-Some.place.item < length s.selection.content_urls) (same_Some here.start start (sym here.at ∙ at))
     (slice_get_within here.start.selection.content_urls c.in-Some.place.item here.url here.there)
 
@@ -38,7 +38,7 @@ returns-then-is_of c =
     let f = subst (IsFollowed c.args.self.now c.args.newest c.args.begun c.args.key.now) c.in-Some.is c.places.invariant in
     let len : length c.args.self.now.starts.items ≡ c.len.result = search rules in
     let here = followed_here c.args.self.now c.args.newest c.args.begun (c.args.newest - c.len.result) c.args.key.now c.in-Some.place (omega (arith, len)) f
-      (omega (arith, c.if-place-oldest.false, c.max-oldest.ensures)) (omega (arith, c.if-place-oldest.false, c.max-oldest.ensures)) in
+    (omega (arith, c.if-place-oldest.false, c.max-oldest.ensures)) (omega (arith, c.if-place-oldest.false, c.max-oldest.ensures)) in
     sym (url_found c.args.self.now.starts.items c.args.begun c.in-Some.place.epoch c.in-Some.place.item here.url c.args.key.now here.is_url
     (sym (c.is_of.ensures here.start here.url here.at here.there) ∙ c.if-is_of.true))
 
@@ -47,7 +47,7 @@ before-next-requires-clause-start c =
     let f = subst (IsFollowed c.args.self.now c.args.newest c.args.begun c.args.key.now) c.in-Some.is c.places.invariant in
     let len : length c.args.self.now.starts.items ≡ c.len.result = search rules in
     let here = followed_here c.args.self.now c.args.newest c.args.begun (c.args.newest - c.len.result) c.args.key.now c.in-Some.place (omega (arith, len)) f
-      (omega (arith, c.if-place-oldest.false, c.max-oldest.ensures)) (omega (arith, c.if-place-oldest.false, c.max-oldest.ensures)) in
+    (omega (arith, c.if-place-oldest.false, c.max-oldest.ensures)) (omega (arith, c.if-place-oldest.false, c.max-oldest.ensures)) in
     slice_get_within c.args.self.now.links.items _ here.list here.link
 
 pub before-next-requires-clause-url : goal.before-next-requires-clause-url
@@ -55,7 +55,7 @@ before-next-requires-clause-url c list at =
     let f = subst (IsFollowed c.args.self.now c.args.newest c.args.begun c.args.key.now) c.in-Some.is c.places.invariant in
     let len : length c.args.self.now.starts.items ≡ c.len.result = search rules in
     let here = followed_here c.args.self.now c.args.newest c.args.begun (c.args.newest - c.len.result) c.args.key.now c.in-Some.place (omega (arith, len)) f
-      (omega (arith, c.if-place-oldest.false, c.max-oldest.ensures)) (omega (arith, c.if-place-oldest.false, c.max-oldest.ensures)) in
+    (omega (arith, c.if-place-oldest.false, c.max-oldest.ensures)) (omega (arith, c.if-place-oldest.false, c.max-oldest.ensures)) in
     let same = same_Some here.list list (sym here.link ∙ at) in
     slice_get_within list.items c.in-Some.place.item here.before (ap (λ (l : PlaceList). slice_get l.items c.in-Some.place.item) (sym same) ∙ here.before_is)
 
@@ -65,7 +65,7 @@ places-smaller c =
     let len : length c.args.self.now.starts.items ≡ c.len.result = search rules in
     let forgotten : c.args.newest - c.len.result ≡ forgotten_of c.args.self.now.starts.items c.args.newest = omega (arith, len) in
     let here = followed_here c.args.self.now c.args.newest c.args.begun (c.args.newest - c.len.result) c.args.key.now c.in-Some.place forgotten f
-      (omega (arith, c.if-place-oldest.false, c.max-oldest.ensures)) (omega (arith, c.if-place-oldest.false, c.max-oldest.ensures)) in
+    (omega (arith, c.if-place-oldest.false, c.max-oldest.ensures)) (omega (arith, c.if-place-oldest.false, c.max-oldest.ensures)) in
     subst (λ (o : Option Place). next_rank c.before-next.result < next_rank o) (sym c.in-Some.is)
     (subst (λ (o : Option Place). next_rank o < next_rank (Some c.in-Some.place)) (same_Some here.before c.before-next.result (sym here.before_is ∙ c.before-next.ensures here.list here.link))
     (rank_falls c.args.self.now.starts.items (c.args.newest - c.len.result) c.args.begun (key_bucket c.args.key.now) c.in-Some.place here.before here.last))
@@ -76,7 +76,7 @@ places-preserved c =
     let len : length c.args.self.now.starts.items ≡ c.len.result = search rules in
     let forgotten : c.args.newest - c.len.result ≡ forgotten_of c.args.self.now.starts.items c.args.newest = omega (arith, len) in
     let here = followed_here c.args.self.now c.args.newest c.args.begun (c.args.newest - c.len.result) c.args.key.now c.in-Some.place forgotten f
-      (omega (arith, c.if-place-oldest.false, c.max-oldest.ensures)) (omega (arith, c.if-place-oldest.false, c.max-oldest.ensures)) in
+    (omega (arith, c.if-place-oldest.false, c.max-oldest.ensures)) (omega (arith, c.if-place-oldest.false, c.max-oldest.ensures)) in
     subst (IsFollowed c.args.self.now c.args.newest c.args.begun c.args.key.now) (same_Some here.before c.before-next.result (sym here.before_is ∙ c.before-next.ensures here.list here.link))
     (followed_on c.args.self.now c.args.newest c.args.begun (c.args.newest - c.len.result) c.args.key.now c.in-Some.place forgotten f here (sym (c.is_of.ensures here.start here.url here.at here.there) ∙ c.if-is_of.false))
 

@@ -6,11 +6,12 @@ use Rattle.epochs.proofs.epochs_list.Epochs.settle.Goals as goal
 
 pub invariant_of-self : goal.invariant_of-self
 invariant_of-self c = let e = c.self.inside in
-    let within : c.args.oldest ≤ e.newest = subst (λ (v : EpochsView). c.args.oldest ≤ v.known.newest) (sym c.self.view_is) c.requires in
-    (c.forget.ensures.room (vec_len e.spare) c.self.invariant.0,
-    rw (c.forget.ensures.starts, c.max-self-inside.ensures) (rising_past c.args.oldest e.settled e.newest e.chains.starts.items within c.self.invariant.1),
-    c.forget.ensures.whole e.newest e.unchained c.self.invariant.2,
-    c.self.invariant.3)
+    let within : c.args.oldest ≤ e.newest = subst (λ (v : EpochsView). c.args.oldest ≤ v.known.newest) (sym c.self.view_is) c.requires in (
+      c.forget.ensures.room (vec_len e.spare) c.self.invariant.0,
+      rw (c.forget.ensures.starts, c.max-self-inside.ensures) (rising_past c.args.oldest e.settled e.newest e.chains.starts.items within c.self.invariant.1),
+      c.forget.ensures.whole e.newest e.unchained c.self.invariant.2,
+      c.self.invariant.3,
+    )
 
 pub returns-clause-known : goal.returns-clause-known
 returns-clause-known c = let e = c.self.inside in

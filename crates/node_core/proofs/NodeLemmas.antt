@@ -13,7 +13,7 @@ use Rattle.history.specs.Laws.{HasBegun, IsOpen, ends_delivery, ends_fetch, ends
 use Rattle.history.specs.World.{Begun, Delivering, Made, is_open}
 use Rattle.history.specs.declared.reply.Reply.{Reply}
 use Rattle.journal.specs.Seen.{Seen, pushed}
-use Rattle.node_core.specs.Call.{entry_of, stripped}
+use Rattle.node_core.specs.Call.{entry_of, is_end, stripped}
 use Rattle.node_core.specs.Home.{EndsOpen}
 use Rattle.node_core.specs.Node.{NodeView, Stands, Tells}
 use Rattle.node_core.specs.State.{Ends, Follows, Says, StateView, ends_open, is_not_open}
@@ -124,3 +124,21 @@ module _ (deliveries : OpenLaw (λ d. d.deliveries) begun_delivery ends_delivery
   ends_open_by (LogFile number) begun = absurd begun
   ends_open_by ListLogs begun = absurd begun
   ends_open_by (DropLog number) begun = absurd begun
+
+-- what is not the end of something ends nothing that is open
+pub ends_nothing : (made : Made) (h : History) (pass : ℕ) (event : Event) → false ≡ is_end event → EndsOpen made h pass event → ⊥
+ends_nothing made h pass (FetchEnd fetch outcome moment) is begun = absurd (cc)
+ends_nothing made h pass (RefreshEnd refresh tree moment) is begun = absurd (cc)
+ends_nothing made h pass (Finish delivery status total entity moment) is begun = absurd (cc)
+ends_nothing made h pass (Admit asked place moment) is begun = begun
+ends_nothing made h pass (RefreshBegin moment) is begun = begun
+ends_nothing made h pass (Command spec moment) is begun = begun
+ends_nothing made h pass (Advance id moment) is begun = begun
+ends_nothing made h pass (Cancel ids moment) is begun = begun
+ends_nothing made h pass (Delete id) is begun = begun
+ends_nothing made h pass (ReadStatus id) is begun = begun
+ends_nothing made h pass (Lists filter) is begun = begun
+ends_nothing made h pass (Cut moment) is begun = begun
+ends_nothing made h pass (LogFile number) is begun = begun
+ends_nothing made h pass ListLogs is begun = begun
+ends_nothing made h pass (DropLog number) is begun = begun

@@ -1,12 +1,10 @@
 //! What a journal keeps of a call.
 
-ghost use Rattle.std.specs.Prelude.{◌≡◌, IfOk, true, false};
+ghost use Rattle.std.specs.Prelude.{◌≡◌, true};
 ghost use Rattle.history.specs.Event.{event_of};
 ghost use Rattle.node_core.specs.Call.{is_end, stripped_event};
 
 use history::Call;
-use listing::Listing;
-use std::alloc::{AllocError, Global};
 use upstream_gate::Outcome;
 
 /// A call that a pass made, without what a fetch or a refresh brought.
@@ -65,49 +63,4 @@ pub(crate) fn stripped(call: &Call) -> Call
         },
         _ => unreachable!(),
     }
-}
-
-// a copy of a call that ends nothing
-pub(crate) fn copied(alloc: Global, call: &Call) -> Result<Call, AllocError>
-    requires { is_end (event_of call.now) ≡ false }
-    ensures { IfOk result (λ copy. event_of copy ≡ stripped_event (event_of call.now)) }
-{
-    match call {
-        Call::Admit {
-            asked,
-            place,
-            moment,
-        } => Ok(Call::Admit {
-            asked: asked.clone()?,
-            place: *place,
-            moment: *moment,
-        }),
-        Call::RefreshBegin { moment } => Ok(Call::RefreshBegin { moment: *moment }),
-        Call::Command { spec, moment } => Ok(Call::Command {
-            spec: spec.clone()?,
-            moment: *moment,
-        }),
-        Call::Advance { id, moment } => Ok(Call::Advance {
-            id: *id,
-            moment: *moment,
-        }),
-        Call::Cancel { ids, moment } => Ok(Call::Cancel {
-            ids: copy_of(ids)?,
-            moment: *moment,
-        }),
-        Call::Delete { id } => Ok(Call::Delete { id: *id }),
-        Call::ReadStatus { id } => Ok(Call::ReadStatus { id: *id }),
-        Call::List { filter } => Ok(Call::List { filter: *filter }),
-        Call::Cut { moment } => Ok(Call::Cut { moment: *moment }),
-        Call::LogFile { number } => Ok(Call::LogFile { number: *number }),
-        Call::ListLogs => Ok(Call::ListLogs),
-        Call::DropLog { number } => Ok(Call::DropLog { number: *number }),
-        _ => unreachable!(),
-    }
-}
-
-fn copy_of(ids: &Listing<u64>) -> Result<Listing<u64>, AllocError>
-    ensures { IfOk result (λ copy. copy ≡ ids.now) }
-{
-    Ok(ids.clone()?)
 }

@@ -11,7 +11,7 @@ ghost use Rattle.node_core.specs.Home.{EndsOpen};
 ghost use Rattle.node_core.specs.Law.{IsLawful};
 ghost use Rattle.node_core.specs.Node.{Stands, Tells};
 
-use crate::entered::{Entered, copied, is_end, stripped};
+use crate::entered::{Entered, is_end, stripped};
 use crate::law::every_answer_is_lawful;
 use crate::state::State;
 use cdni_base::{Limits, Text};
@@ -100,17 +100,6 @@ impl Node {
     {
         every_answer_is_lawful();
         what_is_open_has_begun_and_not_ended();
-        self.take_in(alloc, pass, call)
-    }
-
-    fn take_in(&mut self, alloc: Global, pass: u32, call: Call) -> Result<Reply, AllocError>
-        ensures told { (made : Made) (h : History) → Stands self.old made h
-            → IfOk result (λ r. Tells made h (pass, event_of call) r self.new) }
-        ensures kind { IfOk result (λ r. answers (event_of call) r ≡ true) }
-        ensures made { self.new.made ≡ self.old.made }
-        ensures ended { ends_open self.old.state.edge pass (event_of call) ≡ true → IsOk result }
-        ensures err { OnErr result (self.new ≡ self.old) }
-    {
         if is_end(&call) {
             self.end(alloc, pass, call)
         } else {
@@ -155,13 +144,9 @@ impl Node {
         ensures err { OnErr result (self.new ≡ self.old) }
     {
         reserve(alloc, &mut self.journal, &mut self.reserved, self.places, 3)?;
-        let entry = Entered {
-            pass,
-            call: copied(alloc, &call)?,
-        };
-        let reply = self.state.call(alloc, pass, call)?;
+        let reply = self.state.call(alloc, pass, &call)?;
         self.places += begun_count(&reply);
-        self.journal.push_reserved(entry);
+        self.journal.push_reserved(Entered { pass, call });
         self.reserved -= 1;
         Ok(reply)
     }

@@ -112,32 +112,32 @@ impl State {
     ///
     /// # Errors
     /// Want of memory. Nothing has changed then.
-    pub fn call(&mut self, alloc: Global, pass: u32, call: Call) -> Result<Reply, AllocError>
-        requires { is_end (event_of call) ≡ false }
+    pub fn call(&mut self, alloc: Global, pass: u32, call: &Call) -> Result<Reply, AllocError>
+        requires { is_end (event_of call.now) ≡ false }
         ensures told { (made : Made) (h : History) → Follows self.old made h
-            → IfOk result (λ r. Says made h (pass, event_of call) r self.new) }
-        ensures kind { IfOk result (λ r. answers (event_of call) r ≡ true) }
+            → IfOk result (λ r. Says made h (pass, event_of call.now) r self.new) }
+        ensures kind { IfOk result (λ r. answers (event_of call.now) r ≡ true) }
         ensures origin { self.new.origin ≡ self.old.origin }
         ensures places { IfOk result (λ r. open_count self.new.edge ≤ open_count self.old.edge + begun_count r) }
         ensures err { OnErr result (self.new ≡ self.old) }
     {
         match call {
-            Call::RefreshBegin { moment } => self.refresh_begin(alloc, pass, moment),
+            Call::RefreshBegin { moment } => self.refresh_begin(alloc, pass, *moment),
             Call::Admit {
                 asked,
                 place,
                 moment,
-            } => self.admit(alloc, pass, asked, place, moment),
-            Call::Cut { moment } => self.cut(alloc, moment),
-            Call::LogFile { number } => self.log_file(number),
+            } => self.admit(alloc, pass, asked.clone()?, *place, *moment),
+            Call::Cut { moment } => self.cut(alloc, *moment),
+            Call::LogFile { number } => self.log_file(*number),
             Call::ListLogs => self.list_logs(alloc),
-            Call::DropLog { number } => Ok(self.drop_log(number)),
-            Call::Command { spec, moment } => self.command(alloc, spec, moment),
-            Call::Advance { id, moment } => self.advance(alloc, pass, id, moment),
-            Call::Cancel { ids, moment } => self.cancel(alloc, &ids, moment),
-            Call::Delete { id } => Ok(self.delete(id)),
-            Call::ReadStatus { id } => self.read_status(id),
-            Call::List { filter } => self.list(alloc, filter),
+            Call::DropLog { number } => Ok(self.drop_log(*number)),
+            Call::Command { spec, moment } => self.command(alloc, spec.clone()?, *moment),
+            Call::Advance { id, moment } => self.advance(alloc, pass, *id, *moment),
+            Call::Cancel { ids, moment } => self.cancel(alloc, ids, *moment),
+            Call::Delete { id } => Ok(self.delete(*id)),
+            Call::ReadStatus { id } => self.read_status(*id),
+            Call::List { filter } => self.list(alloc, *filter),
             _ => unreachable!(),
         }
     }

@@ -3,7 +3,7 @@ use Rattle.std.proofs.Common.{◌≡◌, ℕ, suc, ◌+◌, ◌-◌, ◌*◌, �
 use Rattle.std.specs.Prelude.{codes, bytes_eq}
 use Rattle.std.specs.Result.{result_ok}
 use Rattle.std.specs.declared.result.Result.{Result}
-use Rattle.std.specs.List.{slice_split, onto_first, position_or_len, list_all}
+use Rattle.std.specs.List.{slice_split, onto_first, position, position_or_len, list_all}
 use Rattle.std.specs.Option.{option_map}
 use Rattle.std.specs.declared.option.Option.{Option}
 use Rattle.std.proofs.lemmas.Bool.{cases_Bool, cond-true, cond-false, ltb-true, ltb-false, lt-ltb, eqb-true, eq-eqb, and_from, and_parts, or_cases, both_ways, leb-true, le-leb, not_from_true, not_from_false}
@@ -49,6 +49,9 @@ use Rattle.trigger_status.specs.declared.job.Filter.TheVariants as filter
 
 abbrev pub parts_of : ℕ → List ℕ → List (List ℕ)
 parts_of byte text = slice_split (λ x. x == byte) text
+
+no_some : {A : Type 0} {x : A} → None ≡ Some x → ⊥
+no_some is = cc
 
 found_cut : {A B : Type 0} (t : Bool) (a : A) (f : A → B) (b : B) → Some b ≡ option_map f (cond t (Some a) None) → (t ≡ true) × (b ≡ f a)
 found_cut true a f b is = (refl, cc)
@@ -181,6 +184,42 @@ one_or : {B : Type 0} (t : Bool) (first other : Option B) (b : B) → cond t fir
 one_or true first other b is = inl (refl, is)
 one_or false first other b is = inr is
 
+-- ---- a call has a space behind its word, or is one word
+
+-- a word without a space is not the text
+not_named : (text name : List ℕ) (place : ℕ) → position (λ x. x == SPACE) text ≡ Some place → position (λ x. x == SPACE) name ≡ None → bytes_eq text name ≡ false
+not_named text name place is none = elim (cases_Bool (bytes_eq text name)) [
+  | inl same ↦ absurd (no_some (sym none ∙ ap (position (λ x. x == SPACE)) (sym ((bytes_eq-Decides text name).0 same)) ∙ is))
+  | inr other ↦ other
+]
+
+none_of : {A : Type 0} (a b c : Bool) (x y z : Option A) → a ≡ false → b ≡ false → c ≡ false → cond a x (cond b y (cond c z None)) ≡ None
+none_of a b c x y z p q r = rw (p, q, r) refl
+
+not_bare : (moment : ℕ) (text : List ℕ) (place : ℕ) → position (λ x. x == SPACE) text ≡ Some place → bare_of moment text ≡ None
+unfolding bare_of
+not_bare moment text place is =
+    none_of _ _ _ _ _ _ (not_named text (codes "refresh") place is refl) (not_named text (codes "cut") place is refl) (not_named text (codes "logs") place is refl)
+
+pub call_worded : (pass moment : ℕ) (text : List ℕ) (parts : List ℕ × List ℕ) → Some parts ≡ parts_at SPACE text → call_of pass moment text ≡ worded pass moment parts
+unfolding call_of parts_at
+call_worded pass moment text parts is =
+    let space = found_map (λ at. (take at text, drop (at + 1) text)) (position (λ x. x == SPACE) text) parts (sym is) in
+    ap (λ bare. plainly_or pass bare (parts_at SPACE text >>= worded pass moment)) (not_bare moment text space.0 space.1)
+    ∙ ap (λ found. found >>= worded pass moment) (sym is)
+
+pub call_of_one : (pass moment : ℕ) (text : List ℕ) → None ≡ parts_at SPACE text → call_of pass moment text ≡ plainly_or pass (bare_of moment text) None
+unfolding call_of
+call_of_one pass moment text is = ap (λ found. plainly_or pass (bare_of moment text) (found >>= worded pass moment)) (sym is)
+
+-- a line of a pass and a moment says what their call says
+pub line_calls : (line first rest moment call : List ℕ) (number at : ℕ) → parts_at SPACE line ≡ Some (first, rest) → bytes_eq first (codes "limits") ≡ false → number_below (2 ^ 32) first ≡ Some number → parts_at SPACE rest ≡ Some (moment, call) → number_of moment ≡ Some at
+    → line_of line ≡ call_of number at call
+unfolding line_of scripted_of
+line_calls line first rest moment call number at cut other below cut' is =
+    found_then (parts_at SPACE line) _ (first, rest) _ cut
+    (cond-false _ _ _ other ∙ found_then (number_below (2 ^ 32) first) _ number _ below (found_then (parts_at SPACE rest) _ (moment, call) _ cut' (found_then (number_of moment) _ at _ is refl)))
+
 -- ---- a line says what is read of it
 
 small_after : (n m : ℕ) (bs : List ℕ) → n < 2 ^ 64 → number_after n bs ≡ Some m → m < 2 ^ 64
@@ -199,12 +238,9 @@ same_some is = cc
 named : (word name : List ℕ) (one found : Filter) → bytes_eq word name ≡ true → Some one ≡ Some found → name ≡ filter_word one → word ≡ filter_word found
 named word name one found same is known = (bytes_eq-Decides word name).0 same ∙ known ∙ ap filter_word (same_some is)
 
-none_some : {A : Type 0} {x : A} → None ≡ Some x → ⊥
-none_some is = cc
-
 found_target : {E : Type 0} (read : Result Target E) (target : Target) → result_ok read ≡ Some target → read ≡ Ok target
 found_target (Ok t) target is = ap Ok (same_some is)
-found_target (Err e) target is = absurd (none_some is)
+found_target (Err e) target is = absurd (no_some is)
 
 url_says : (url : List ℕ) (target : Target) → url_target url ≡ Some target → IsTarget url None false target
 url_says url target is = target_read url None false target (found_target (target_of url None false) target is)
@@ -388,7 +424,7 @@ says_get moment text said is =
 
 found_ok : {A E : Type 0} (read : Result A E) (a : A) → result_ok read ≡ Some a → read ≡ Ok a
 found_ok (Ok b) a is = ap Ok (same_some is)
-found_ok (Err e) a is = absurd (none_some is)
+found_ok (Err e) a is = absurd (no_some is)
 
 no_dash : (word : List ℕ) → bytes_eq word (codes "-") ≡ false → word ≢ codes "-"
 no_dash word other same = both_ways _ other ((bytes_eq-Decides word (codes "-")).1 same)
@@ -969,7 +1005,7 @@ line_says line said is =
 -- a number is no `limits`
 no_limits : (text : List ℕ) (n : ℕ) → IsNumber text n → bytes_eq text (codes "limits") ≡ false
 no_limits text n is = elim (cases_Bool (bytes_eq text (codes "limits"))) [
-  | inl same ↦ absurd (none_some (ap number_of (sym ((bytes_eq-Decides text (codes "limits")).0 same)) ∙ says_number text n is))
+  | inl same ↦ absurd (no_some (ap number_of (sym ((bytes_eq-Decides text (codes "limits")).0 same)) ∙ says_number text n is))
   | inr other ↦ other
 ]
 
@@ -1008,7 +1044,7 @@ read_says (Err fault) line is = tt
 
 pub read_nothing : (read : Result ScriptLine ScriptFault) (line : List ℕ) → Reads read (line_of line) → read ≡ Err script_fault.NotALine → (said : Said) → Says line said → ⊥
 read_nothing read line is none said says =
-    none_some (sym (subst (λ r. Reads r (line_of line)) none is) ∙ says_line line said says)
+    no_some (sym (subst (λ r. Reads r (line_of line)) none is) ∙ says_line line said says)
 
 pub read_tells : (read : Result ScriptLine ScriptFault) (said : Option Said) → Reads read said → IfOk read TellsNoMemory
 read_tells (Ok found) said is = is.1

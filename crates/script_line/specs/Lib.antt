@@ -1,4 +1,5 @@
 pub mod Answer
+pub mod Fault
 pub mod Grammar
 pub mod Line
 pub mod Own

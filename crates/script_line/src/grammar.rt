@@ -1,8 +1,11 @@
 //! What a line of a script says.
 
-ghost use Rattle.std.specs.Prelude.{◌≡◌, ◌==◌, ◌<◌, ◌≤◌, List, ℕ, IfOk, IfSome, length, option_map};
+ghost use Rattle.std.specs.Prelude.{◌≡◌, ◌==◌, ◌<◌, ◌≤◌, ◌*◌, List, ℕ, IfOk, IfSome, length, option_map};
 ghost use Rattle.std.specs.List.{list_all, position};
 ghost use Rattle.metadata_objects.specs.Host.{host_index_of_text};
+ghost use Rattle.std.specs.Result.{result_ok};
+ghost use Rattle.hex.specs.Hex.{decode_of};
+ghost use Rattle.script_line.specs.declared.grammar.TheConstants.{SHORT_BODY};
 ghost use Rattle.listing.specs.Number.{number_of};
 ghost use Rattle.listing.specs.Word.{parts_at};
 ghost use Rattle.history.specs.Event.{event_of};
@@ -10,13 +13,13 @@ ghost use Rattle.script_line.specs.Line.{said_of, on_pass, Gives, Reads, Said, S
 ghost use Rattle.script_line.specs.Own.{own_id, control_host};
 ghost use Rattle.trigger_command.specs.Reading.{command_of};
 ghost use Rattle.cdni_base.specs.declared.type_name.TheConstants.{TYPE_NAME_MAX};
-ghost use Rattle.script_line.specs.Grammar.{number_below, number_between, bounds_of, limits_of, bare_of, of_numbers, of_triggers, joined, filter_of, finish_of, got_of, content_of, kind_of, is_kind, is_graphic_byte, body_of, url_target, key_of_url, keys_of, is_token_byte, is_method, protocol_of, place_at, asked_of, get_of, refreshed, meta_of, plain, commands, commanded, worded, call_of, scripted_of, line_of, Says};
+ghost use Rattle.script_line.specs.Grammar.{number_below, number_between, bounds_of, limits_of, bare_of, of_numbers, of_triggers, joined, filter_of, finish_of, got_of, content_of, kind_of, is_kind, is_graphic_byte, body_of, url_target, key_of_url, keys_of, is_token_byte, is_method, protocol_of, place_at, asked_of, get_of, refreshed, meta_of, plain, plainly_or, commands, commanded, worded, line_of, Says};
 
 use crate::line::{ScriptFault, ScriptLine};
 use crate::own::{control_host, own_id};
 use cdni_base::{
-    Asked, Body, Ignored, Key, Limits, Moment, Protocol, TYPE_NAME_MAX, Target, TargetFault, Text,
-    TypeName, url_key,
+    Asked, Body, Ignored, Key, Limits, Moment, Protocol, TYPE_NAME_MAX, Target, Text, TypeName,
+    url_key,
 };
 use hex::FromHexError;
 use history::Call;
@@ -40,6 +43,9 @@ pub const COMMA: u8 = b',';
 /// A method of more bytes is none.
 pub const LONGEST_METHOD: usize = 127;
 
+/// A body of at most so many bytes is read without memory for its digits.
+const SHORT_BODY: usize = 64;
+
 /// Reads a line of a script, its line feed left out.
 ///
 /// # Errors
@@ -55,7 +61,7 @@ pub fn read_line(alloc: Global, line: &[u8]) -> Result<ScriptLine, ScriptFault>
 }
 
 // `limits` and the limits, or PASS MOMENT and a call
-#[tactic(auto, unfolding(crate::specs::Grammar::line_of))]
+#[tactic(auto, unfolding(crate::specs::Grammar::line_of, crate::specs::Grammar::scripted_of))]
 fn read_words(alloc: Global, line: &[u8]) -> Result<ScriptLine, ScriptFault>
     ensures { Reads result (line_of line.now) }
 {
@@ -63,17 +69,43 @@ fn read_words(alloc: Global, line: &[u8]) -> Result<ScriptLine, ScriptFault>
     if first == b"limits".as_slice() {
         return Ok(ScriptLine::Limits(read_limits(rest)?));
     }
-    read_scripted(alloc, first, rest)
+    let pass = read_below(4294967296, first)?;
+    let (moment, call) = cut(rest)?;
+    let moment = read_number(moment)?;
+    match first_word(call) {
+        Some((word, rest)) => read_worded(alloc, pass as u32, moment, word, rest),
+        None => read_one(pass as u32, moment, call),
+    }
+}
+
+// a call of one word
+fn read_one(pass: u32, moment: Moment, text: &[u8]) -> Result<ScriptLine, ScriptFault>
+    ensures { Reads result (plainly_or pass (bare_of moment text.now) None) }
+{
+    match read_bare(moment, text) {
+        Some(call) => Ok(line_of_call(pass, call)),
+        None => Err(ScriptFault::NotALine),
+    }
 }
 
 // the next word, and what stands after the space behind it
-#[tactic(auto, unfolding(listing::specs::Word::parts_at))]
 fn cut(text: &[u8]) -> Result<(&[u8], &[u8]), ScriptFault>
     ensures { Gives (λ parts. (parts.0.now, parts.1.now)) result (parts_at SPACE text.now) }
 {
-    match space_in(text) {
-        Some(place) => Ok((&text[..place], &text[place + 1..])),
+    match first_word(text) {
+        Some(parts) => Ok(parts),
         None => Err(ScriptFault::NotALine),
+    }
+}
+
+// the first word, if there is a space behind it, and what stands after that
+#[tactic(auto, unfolding(listing::specs::Word::parts_at))]
+fn first_word(text: &[u8]) -> Option<(&[u8], &[u8])>
+    ensures { option_map (λ parts. (parts.0.now, parts.1.now)) result ≡ parts_at SPACE text.now }
+{
+    match space_in(text) {
+        Some(place) => Some((&text[..place], &text[place + 1..])),
+        None => None,
     }
 }
 
@@ -83,17 +115,6 @@ fn space_in(text: &[u8]) -> Option<usize>
     ensures within { IfSome result (λ place. place < length text.now) }
 {
     text.iter().position(|byte| *byte == SPACE)
-}
-
-// PASS MOMENT and a call, where the pass is read: its text, and what follows it
-#[tactic(auto, unfolding(crate::specs::Grammar::scripted_of))]
-fn read_scripted(alloc: Global, pass: &[u8], rest: &[u8]) -> Result<ScriptLine, ScriptFault>
-    ensures { Reads result (scripted_of (pass.now, rest.now)) }
-{
-    let pass = read_below(4294967296, pass)?;
-    let (moment, call) = cut(rest)?;
-    let moment = read_number(moment)?;
-    read_call(alloc, pass as u32, moment, call)
 }
 
 // CACHE ROWS TRIGGERS FILES PERIOD OPENED
@@ -167,22 +188,6 @@ fn read_number(text: &[u8]) -> Result<u64, ScriptFault>
     read_decimal(text).ok_or(ScriptFault::NotALine)
 }
 
-#[tactic(auto, unfolding(crate::specs::Grammar::call_of))]
-fn read_call(
-    alloc: Global,
-    pass: u32,
-    moment: Moment,
-    text: &[u8],
-) -> Result<ScriptLine, ScriptFault>
-    ensures { Reads result (call_of pass moment text.now) }
-{
-    if let Some(call) = read_bare(moment, text) {
-        return Ok(line_of_call(pass, call));
-    }
-    let (word, rest) = cut(text)?;
-    read_worded(alloc, pass, moment, word, rest)
-}
-
 // a word, and what stands after the space behind it
 #[tactic(auto, unfolding(crate::specs::Grammar::worded))]
 fn read_worded(
@@ -206,6 +211,19 @@ fn read_worded(
     if word == b"command".as_slice() {
         return read_command(alloc, pass, moment, rest);
     }
+    read_other(alloc, pass, moment, word, rest)
+}
+
+// the same of a word that is none of `get`, `got`, `meta` and `command`
+fn read_other(
+    alloc: Global,
+    pass: u32,
+    moment: Moment,
+    word: &[u8],
+    rest: &[u8],
+) -> Result<ScriptLine, ScriptFault>
+    ensures { Reads result (plainly_or pass (of_numbers moment word.now rest.now) None) }
+{
     Ok(line_of_call(pass, read_numbered(alloc, moment, word, rest)?))
 }
 
@@ -569,6 +587,30 @@ fn read_body(alloc: Global, word: &[u8]) -> Result<Body, ScriptFault>
     if word.is_empty() {
         return Err(ScriptFault::NotALine);
     }
+    if word.len() <= 2 * SHORT_BODY {
+        read_short_body(alloc, word)
+    } else {
+        read_long_body(alloc, word)
+    }
+}
+
+// a body for which the stack has room
+fn read_short_body(alloc: Global, word: &[u8]) -> Result<Body, ScriptFault>
+    requires { length word.now ≤ 2 * SHORT_BODY }
+    ensures { Gives (λ body. body) result (result_ok (decode_of word.now)) }
+{
+    let mut room = [0; SHORT_BODY];
+    let bytes = &mut room[..word.len() / 2];
+    match hex::decode_to_slice(word, bytes) {
+        Ok(()) => Ok(Body::of(alloc, bytes)?),
+        Err(_) => Err(ScriptFault::NotALine),
+    }
+}
+
+// a body of any length
+fn read_long_body(alloc: Global, word: &[u8]) -> Result<Body, ScriptFault>
+    ensures { Gives (λ body. body) result (result_ok (decode_of word.now)) }
+{
     match hex::decode(alloc, word) {
         Ok(bytes) => Ok(Body::of(alloc, &bytes)?),
         Err(FromHexError::OutOfMemory) => Err(ScriptFault::Memory),
@@ -602,7 +644,7 @@ fn read_asked(
         return Err(ScriptFault::NotALine);
     }
     let protocol = read_protocol(protocol)?;
-    let target = read_target(alloc, url)?;
+    let target = Target::read(alloc, url, None, false)?;
     Ok(Asked {
         method: Text::of(alloc, method)?,
         protocol,
@@ -663,17 +705,6 @@ fn read_keys(alloc: Global, text: &[u8]) -> Result<KeyList, ScriptFault>
 fn read_key(alloc: Global, url: &[u8]) -> Result<Key, ScriptFault>
     ensures { Gives (λ key. key) result (key_of_url url.now) }
 {
-    let target = read_target(alloc, url)?;
+    let target = Target::read(alloc, url, None, false)?;
     Ok(url_key(alloc, &target, &Ignored::None)?)
-}
-
-// the target of an absolute URL
-fn read_target(alloc: Global, url: &[u8]) -> Result<Target, ScriptFault>
-    ensures { Gives (λ target. target) result (url_target url.now) }
-{
-    match Target::read(alloc, url, None, false) {
-        Ok(target) => Ok(target),
-        Err(TargetFault::Memory) => Err(ScriptFault::Memory),
-        Err(_) => Err(ScriptFault::NotALine),
-    }
 }

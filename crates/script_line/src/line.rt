@@ -4,6 +4,7 @@ use cdni_base::Limits;
 use history::Call;
 use metadata_objects::MetaFault;
 use std::alloc::AllocError;
+use targets::TargetFault;
 use trigger_command::CommandFault;
 
 /// A line of a script.
@@ -38,5 +39,19 @@ impl From<AllocError> for ScriptFault {
 
     fn from(_error: AllocError) -> ScriptFault {
         ScriptFault::Memory
+    }
+}
+
+impl From<TargetFault> for ScriptFault {
+    ghost use Rattle.std.specs.Prelude.{◌≡◌};
+    ghost use Rattle.script_line.specs.Fault.{fault_of};
+
+    ghost from_gives = { λ wrong given. given ≡ fault_of wrong };
+
+    fn from(fault: TargetFault) -> ScriptFault {
+        match fault {
+            TargetFault::Memory => ScriptFault::Memory,
+            _ => ScriptFault::NotALine,
+        }
     }
 }

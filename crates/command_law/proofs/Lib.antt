@@ -1,0 +1,12 @@
+pub mod Meets
+pub mod Fields
+pub mod StatusUrl
+pub mod Items
+pub mod Checks
+pub mod Commands
+pub mod RoundTrip
+pub mod Shown
+pub mod Kept
+pub mod Utf8Texts
+pub mod Utf8Values
+pub mod Again

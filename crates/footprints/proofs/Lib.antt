@@ -1,0 +1,2 @@
+pub mod AdvertisementLemmas
+pub mod SettingsLemmas

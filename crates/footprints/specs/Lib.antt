@@ -1,0 +1,2 @@
+pub mod Advertisement
+pub mod Settings

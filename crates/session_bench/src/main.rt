@@ -92,24 +92,55 @@ fn requests(alloc: Global, count: u32) -> anyhow::Result<Vec<u8>> {
     Ok(bytes)
 }
 
-fn serve<R: Threads + Wait + Sync>(rt: &R, alloc: Global, count: u32) -> anyhow::Result<Ending> {
-    let mut home = home_of(alloc)?;
-    let mut source = SteadySource::new(alloc, &requests(alloc, count)?)?;
+// Serves a connection of these bytes; whether it ended at their end.
+fn serve<R: Threads + Wait + Sync>(
+    rt: &R,
+    alloc: Global,
+    home: &mut OneHome,
+    gate: &mut MemoryGate,
+    settings: &Settings,
+    peer: &Peer,
+    bytes: &[u8],
+) -> anyhow::Result<bool> {
+    let mut source = SteadySource::new(alloc, bytes)?;
     let mut sink = SteadySink::new(alloc)?;
-    let mut gate = gate_of(alloc)?;
     let mut clock = ListClock::new(alloc, &[1368751086825])?;
-    let settings = settings_of(alloc)?;
-    Ok(serve_session(
+    let ending = serve_session(
         rt,
         alloc,
-        &mut home,
-        &peer()?,
+        home,
+        peer,
         &mut source,
         &mut sink,
-        &mut gate,
+        gate,
         &mut clock,
-        &settings,
-    ))
+        settings,
+    );
+    Ok(ending == Ending::Ended)
+}
+
+// The same of so many requests.
+fn serve_requests<R: Threads + Wait + Sync>(
+    rt: &R,
+    alloc: Global,
+    home: &mut OneHome,
+    gate: &mut MemoryGate,
+    count: u32,
+) -> anyhow::Result<bool> {
+    let settings = settings_of(alloc)?;
+    let bytes = requests(alloc, count)?;
+    serve(rt, alloc, home, gate, &settings, &peer()?, &bytes)
+}
+
+// The same with a gate that is made for it.
+fn serve_home<R: Threads + Wait + Sync>(
+    rt: &R,
+    alloc: Global,
+    home: &mut OneHome,
+    count: u32,
+) -> anyhow::Result<bool> {
+    let mut gate = gate_of(alloc)?;
+    serve_requests(rt, alloc, home, &mut gate, count)
 }
 
 fn main(rt: HostRuntime) -> anyhow::Result<()> {
@@ -119,10 +150,11 @@ fn main(rt: HostRuntime) -> anyhow::Result<()> {
         Some(word) => word.parse::<u32>()?,
         None => 10,
     };
-    let ending = serve(&rt, alloc, count.min(MOST))?;
-    match ending {
-        Ending::Ended => println!(&rt; "all were answered")?,
-        _ => println!(&rt; "the session broke off")?,
+    let mut home = home_of(alloc)?;
+    if serve_home(&rt, alloc, &mut home, count.min(MOST))? {
+        println!(&rt; "all were answered")?;
+    } else {
+        println!(&rt; "the session broke off")?;
     }
     Ok(())
 }

@@ -12,27 +12,11 @@ mod told;
 
 use crate::case::differs;
 use anyhow::bail;
-use edge_base::{Source, StdSource, Took};
 use serde_json::Value;
 use std::alloc::Global;
+use std::io::Read;
 use std::sync::Wait;
 use std::thread::Threads;
-
-const READ_SIZE: usize = 65_536;
-
-// All bytes of a source.
-fn read_all<S: Source>(alloc: Global, source: &mut S) -> anyhow::Result<Vec<u8>> {
-    let mut bytes = Vec::new(alloc);
-    let mut piece = vec![in alloc; 0u8; READ_SIZE]?;
-    for _ in 0..1_000_000u32 {
-        match source.read(&mut piece) {
-            Took::Some(count) => bytes.extend_from_slice(&piece[..count])?,
-            Took::End => return Ok(bytes),
-            Took::Failed => bail!("the input failed"),
-        }
-    }
-    bail!("the input has no end")
-}
 
 // Runs one case, and prints its name where it differs.
 fn run_one<R: Threads + Wait + Sync + Print>(
@@ -55,8 +39,8 @@ fn run_one<R: Threads + Wait + Sync + Print>(
 
 fn main(rt: HostRuntime) -> anyhow::Result<()> {
     let alloc = rt.alloc();
-    let mut input = StdSource::new(rt.stdin());
-    let bytes = read_all(alloc, &mut input)?;
+    let mut bytes = Vec::new(alloc);
+    rt.stdin().read_to_end(&mut bytes)?;
     let mut cases = 0u32;
     let mut differing = 0u32;
     for line in bytes.split(|byte| *byte == b'\n') {

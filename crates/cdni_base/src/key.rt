@@ -91,12 +91,12 @@ fn both_urls(
     ensures https { IfOk result (λ urls. drop urls.1 urls.0.items
         ≡ url_of true target.now.host target.now.port target.now.path query.now) }
 {
-    let port = target.port;
     let room = url_room(&target.host, &target.path, query).saturating_mul(2);
     let mut urls = Vec::with_capacity(alloc, room)?;
-    add_url(&mut urls, false, &target.host, port, &target.path, query)?;
+    add_url(&mut urls, false, &target.host, target.port, &target.path, query)?;
     let secure_from = urls.len();
-    add_url(&mut urls, true, &target.host, port, &target.path, query)?;
+    urls.extend_from_slice(b"https")?;
+    urls.extend_from_within(b"http".len()..secure_from)?;
     Ok((urls, secure_from))
 }
 

@@ -1,9 +1,10 @@
 -- Pieces of a query: how they are cut off, kept and joined.
-use Rattle.std.proofs.Common.{◌≡◌, ℕ, ◌+◌, ◌<◌, ◌≤◌, Bool, true, false, not, cond, List, [], ◌∷◌, ◌++◌, length, take, drop, refl, ap, sym, subst, ◌∙◌, arith, Option, Some, None, ltb, ◌==◌, append-nil, append_assoc, length-drop, ⊎_elim, ◌↔◌, IsTrue, is_some}
+use Rattle.std.proofs.Common.{◌≡◌, ℕ, ◌+◌, ◌-◌, ◌<◌, ◌≤◌, Bool, true, false, not, cond, List, [], ◌∷◌, ◌++◌, length, take, drop, refl, ap, sym, subst, ◌∙◌, arith, Option, Some, None, ltb, ◌==◌, append-nil, append_assoc, length-drop, ⊎_elim, ◌↔◌, IsTrue, is_some}
 use Rattle.std.proofs.lemmas.Bool.{cases_Bool, cond-true, cond-false, ltb-true, ltb-false, not_from_true, not_from_false, and_parts, not-true}
 use Rattle.std.proofs.lemmas.List.Elements.{All-cons, All-nil, filter-append}
 use Rattle.std.proofs.lemmas.List.Splits.{slice_split_first, slice_split-cons_yes, slice_split-cons_no, slice_split_at, length-slice_split, slice_split_none, join_with_byte-slice_split}
-use Rattle.std.specs.List.{slice_split, onto_first, position_or_len, join_with_byte, filter, All, list_all}
+use Rattle.std.proofs.Math.Seq.{drop-append_seam, take-append_seam}
+use Rattle.std.specs.List.{slice_range, slice_split, onto_first, position_or_len, join_with_byte, filter, All, list_all}
 use Rattle.std.specs.Option.{option_map}
 use Rattle.listing.specs.Word.{parts_at}
 use Rattle.cdni_base.specs.declared.key.Ignored.TheVariants as ignored
@@ -191,3 +192,18 @@ told_apart target other names =
       ),
       λ parts. rw (parts.0, parts.1, parts.2, parts.3) refl,
     )
+
+four_less : (n m : ℕ) → n ≡ 4 + m → n - 4 ≡ m
+four_less n m is = omega (arith, is)
+
+-- a text that is copied behind another one without its first four bytes, which stand otherwise there
+pub copied_behind : (rest other : List ℕ) (size : ℕ) (first second third : List ℕ) → size ≡ length first → first ≡ 104 ∷ 116 ∷ 116 ∷ 112 ∷ rest → second ≡ first ++ other → third ≡ second ++ slice_range second 4 size
+    → drop size third ≡ other ++ rest
+copied_behind rest other size first second third is starts then behind =
+    let front : List ℕ = 104 ∷ 116 ∷ 116 ∷ 112 ∷ rest in
+    let part : slice_range (front ++ other) 4 (length front) ≡ rest = ap (λ (n : ℕ). take n (rest ++ other)) (four_less (length front) (length rest) (omega arith)) ∙ take-append_seam rest other in
+    let length_is : size ≡ length front = is ∙ ap length starts in
+    let second_is : second ≡ front ++ other = then ∙ ap (λ (x : List ℕ). x ++ other) starts in
+    let third_is : third ≡ (front ++ other) ++ rest =
+    behind ∙ ap (λ (x : List ℕ). x ++ slice_range x 4 size) second_is ∙ ap (λ (n : ℕ). (front ++ other) ++ slice_range (front ++ other) 4 n) length_is ∙ ap (λ (x : List ℕ). (front ++ other) ++ x) part in
+    ap (λ (x : List ℕ). drop size x) (third_is ∙ append_assoc front other rest) ∙ ap (λ (n : ℕ). drop n (front ++ (other ++ rest))) length_is ∙ drop-append_seam front (other ++ rest)

@@ -93,7 +93,14 @@ fn both_urls(
 {
     let room = url_room(&target.host, &target.path, query).saturating_mul(2);
     let mut urls = Vec::with_capacity(alloc, room)?;
-    add_url(&mut urls, false, &target.host, target.port, &target.path, query)?;
+    add_url(
+        &mut urls,
+        false,
+        &target.host,
+        target.port,
+        &target.path,
+        query,
+    )?;
     let secure_from = urls.len();
     urls.extend_from_slice(b"https")?;
     urls.extend_from_within(b"http".len()..secure_from)?;

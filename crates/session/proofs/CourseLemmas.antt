@@ -255,7 +255,7 @@ pub missed : (who : Who) (a b c : History → Type 0) (g g' : Option (List ℕ))
 missed who a b c g g' t t' k k' before now asked place manner delivery fetch plan made how d after planned caused admitted asks f v same does = elim (f.short) as (λ x. f.short ≡ x → Delivered who a c g g' t t' k k' before now asked place manner after) [
   | true ↦ λ e. missed_with who a b c g g' t t' k k' before now asked place manner delivery fetch plan made how d after (Short delivery fetch plan made how f.ended f.closed f.at f.line) f tt planned (subst (λ x. AnswersFetched manner how x f.answer) e f.answered) tt refl refl (λ taken. refl) (sym e) admitted asks v same does
   | false ↦ λ e. let answered = subst (λ x. AnswersFetched manner how x f.answer) e f.answered in
-      missed_with who a b c g g' t t' k k' before now asked place manner delivery fetch plan made how d after (Brought delivery fetch plan made how f.ended f.closed f.at f.line) f tt (planned, answered.0) answered.1 caused refl refl (λ taken. refl) (sym e) admitted asks v same does
+      missed_with who a b c g g' t t' k k' before now asked place manner delivery fetch plan made how d after (Brought delivery fetch plan made how f.ended f.closed f.at f.line) f tt (planned, answered.0, answered.1) answered.2 caused refl refl (λ taken. refl) (sym e) admitted asks v same does
 ] refl
 
 -- ---- a refresh, and then the delivery

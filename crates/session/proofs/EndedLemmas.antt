@@ -110,7 +110,7 @@ turn_ended settings place last d after (inr (inr (inr served))) =
 pub runs_ended : (settings : Settings) (place : Place) (n : ℕ) (done : Doing) (turns : List Doing) (end : Ending) (all : Doing) → AllEnded done.calls → Runs settings place n done turns end all → AllEnded all.calls
 unfolding Runs
 runs_ended settings place n done [] end all ended runs = subst (λ (x : Doing). AllEnded x.calls) (sym runs.2) ended
-runs_ended settings place n done (d ∷ ds) end all ended (next.GoesOn, turn, rest) =
+runs_ended settings place n done (d ∷ ds) end all ended (within, next.GoesOn, turn, rest) =
     runs_ended settings place (n + 1) (then done d) ds end all (all_then done.calls d.calls ended (turn_ended settings place _ d next.GoesOn turn)) rest
-runs_ended settings place n done (d ∷ ds) end all ended (next.Stops e, turn, (last, same, is)) =
+runs_ended settings place n done (d ∷ ds) end all ended (within, next.Stops e, turn, (last, same, is)) =
     subst (λ (x : Doing). AllEnded x.calls) (sym is) (all_then done.calls d.calls ended (turn_ended settings place _ d (next.Stops e) turn))

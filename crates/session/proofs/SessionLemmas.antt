@@ -1,5 +1,5 @@
 -- One turn after the other.
-use Rattle.std.proofs.Common.{◌≡◌, ℕ, ◌+◌, ◌-◌, ◌==◌, Bool, true, false, List, [], ◌∷◌, ◌++◌, refl, sym, subst, Option}
+use Rattle.std.proofs.Common.{◌≡◌, ℕ, ◌+◌, ◌-◌, ◌<◌, ◌==◌, Bool, true, false, List, [], ◌∷◌, ◌++◌, refl, sym, subst, arith, Option}
 use Rattle.std.specs.Io.KnownBytes.{Consumes}
 use Rattle.history.specs.Event.{History}
 use Rattle.http_wire.specs.Moves.{Moves}
@@ -39,14 +39,14 @@ begins settings place who a g t k left inbox empty = record {
 }
 
 pub goes_on : (settings : Settings) (place : Place) (n : ℕ) (last : Bool) (who : Who) (a b c : History → Type 0) (g g' g'' : Option (List ℕ)) (t t' t'' : Option (List Exchange)) (k k' k'' left left' left'' : Option (List ℕ)) (inbox inbox' : List ℕ)
-    → SoFar settings place n who a b g g' t t' k k' left left' inbox → last ≡ (n == TURNS_MAX - 1) → (v : Who) → v ≡ who → Turned v b c g' g'' t' t'' k' k'' left' left'' inbox inbox' settings place last next.GoesOn
+    → SoFar settings place n who a b g g' t t' k k' left left' inbox → last ≡ (n == TURNS_MAX - 1) → n < TURNS_MAX → (v : Who) → v ≡ who → Turned v b c g' g'' t' t'' k' k'' left' left'' inbox inbox' settings place last next.GoesOn
     → SoFar settings place (n + 1) who a c g g'' t t'' k k'' left left'' inbox'
 unfolding Runs
-goes_on settings place n last who a b c g g' g'' t t' t'' k k' k'' left left' left'' inbox inbox' so is v same there =
+goes_on settings place n last who a b c g g' g'' t t' t'' k k' k'' left left' left'' inbox inbox' so is within v same there =
     let turn = subst (λ (x : Who). Turned x b c g' g'' t' t'' k' k'' left' left'' inbox inbox' settings place last next.GoesOn) same there in
     record {
       done = then so.done turn.0;
-      runs = λ turns end all r. so.runs (turn.0 ∷ turns) end all (next.GoesOn, subst (λ (x : Bool). Turn settings place x turn.0 next.GoesOn) is turn.1, r);
+      runs = λ turns end all r. so.runs (turn.0 ∷ turns) end all (within, next.GoesOn, subst (λ (x : Bool). Turn settings place x turn.0 next.GoesOn) is turn.1, r);
       moves = moves_then left left' left'' [] inbox inbox' so.done.bytes turn.0.bytes so.moves turn.2;
       does = does_on who Any a b c g g' g'' t t' t'' k k' k'' so.done turn.0 so.does turn.4;
     }
@@ -60,13 +60,13 @@ taken : (left left' : Option (List ℕ)) (inbox bytes : List ℕ) → Moves left
 taken left left' inbox bytes moves = subst (λ (x : List ℕ). Consumes left left' x) moves.parts moves.consumed
 
 pub stops : (settings : Settings) (place : Place) (n : ℕ) (last : Bool) (who : Who) (a b c : History → Type 0) (g g' g'' : Option (List ℕ)) (t t' t'' : Option (List Exchange)) (k k' k'' left left' left'' : Option (List ℕ)) (inbox inbox' : List ℕ) (end : Ending)
-    → SoFar settings place n who a b g g' t t' k k' left left' inbox → last ≡ (n == TURNS_MAX - 1) → (v : Who) → v ≡ who → Turned v b c g' g'' t' t'' k' k'' left' left'' inbox inbox' settings place last (next.Stops end)
+    → SoFar settings place n who a b g g' t t' k k' left left' inbox → last ≡ (n == TURNS_MAX - 1) → n < TURNS_MAX → (v : Who) → v ≡ who → Turned v b c g' g'' t' t'' k' k'' left' left'' inbox inbox' settings place last (next.Stops end)
     → Ends settings place who a c g g'' t t'' k k'' left left'' end
 unfolding Runs
-stops settings place n last who a b c g g' g'' t t' t'' k k' k'' left left' left'' inbox inbox' end so is v same there =
+stops settings place n last who a b c g g' g'' t t' t'' k k' k'' left left' left'' inbox inbox' end so is within v same there =
     let turn = subst (λ (x : Who). Turned x b c g' g'' t' t'' k' k'' left' left'' inbox inbox' settings place last (next.Stops end)) same there in
     let all = then so.done turn.0 in
-    let r = so.runs (turn.0 ∷ []) end all (next.Stops end, subst (λ (x : Bool). Turn settings place x turn.0 (next.Stops end)) is turn.1, (refl, refl, refl)) in
+    let r = so.runs (turn.0 ∷ []) end all (within, next.Stops end, subst (λ (x : Bool). Turn settings place x turn.0 (next.Stops end)) is turn.1, (refl, refl, refl)) in
     let moves = moves_then left left' left'' [] inbox inbox' so.done.bytes turn.0.bytes so.moves turn.2 in
     (all, inbox', r, taken left left'' inbox' all.bytes moves, turn.3, does_on who Any a b c g g' g'' t t' t'' k k' k'' so.done turn.0 so.does turn.4)
 
@@ -80,5 +80,5 @@ used_up settings place n who a b g g' t t' k k' left left' inbox so is =
 pub no_room : (settings : Settings) (place : Place) (who : Who) (a : History → Type 0) (g : Option (List ℕ)) (t : Option (List Exchange)) (k k' left : Option (List ℕ)) (sent : Sent) (end : Ending)
     → Says (IsConstant constant.Unavailable) k k' sent → next.Stops end ≡ next_of false true sent.fault → Ends settings place who a a g g t t k k' left left end
 no_room settings place who a g t k k' left sent end s goes =
-    stops settings place 0 false who a a a g g g t t t k k k' left left left [] [] end (begins settings place who a g t k left [] refl) refl who refl
+    stops settings place 0 false who a a a g g g t t t k k k' left left left [] [] end (begins settings place who a g t k left [] refl) refl (omega arith) who refl
     (short_of_head who a g t k k' sent left left [] [] settings place false (next.Stops end) s goes (moves_nothing left []))

@@ -1,18 +1,27 @@
 -- What the end of a delivery tells of its answer.
-use Rattle.std.proofs.Common.{◌≡◌, ℕ, ◌-◌, ◌+◌, ◌<◌, ◌==◌, Bool, true, false, List, [], ◌∷◌, ◌++◌, length, refl, sym, ◌∙◌, ap, subst, arith, cond, inl, inr}
+use Rattle.std.proofs.Common.{◌≡◌, ℕ, ◌-◌, ◌+◌, ◌<◌, ◌==◌, Bool, true, false, List, [], ◌∷◌, ◌++◌, length, refl, sym, ◌∙◌, ap, subst, arith, cond, IsTrue, inl, inr}
 use Rattle.cdni_base.specs.declared.asked.Asked.{Asked}
 use Rattle.history.specs.Event.{Admit}
 use Rattle.location_acl.specs.declared.footprint.Place.{Place}
 use Rattle.targets.specs.declared.target.Target.{Target}
 use Rattle.upstream_gate.specs.declared.outcome.Outcome.{Outcome}
 use Rattle.upstream_gate.specs.declared.outcome.Outcome.TheVariants as outcome
-use Rattle.session.specs.Answer.{Answer}
-use Rattle.session.specs.Content.{IsShown, brought_shown}
-use Rattle.session.specs.Course.{Course, NoRoom, Crowded, Full, Barred, Kept, Brought, Short, Content, course_calls, IsAnswerOf}
+use Rattle.byte_range.specs.Span.{span_of}
+use Rattle.byte_range.specs.declared.span.Span.{Span}
+use Rattle.byte_range.specs.declared.span.Span.TheVariants as span
+use Rattle.cdni_base.specs.Rule.{rule_status}
+use Rattle.cdni_base.specs.declared.rule.Rule.{Rule}
+use Rattle.cdni_base.specs.declared.rule.Rule.TheVariants as rule
+use Rattle.std.proofs.lemmas.Bool.{both_ways}
+use Rattle.upstream_gate.specs.Got.{GotParts, IsGot, is_got_status}
+use Rattle.session.specs.Answer.{Answer, IsConstant}
+use Rattle.session.specs.Content.{Shown, IsShown, brought_shown, content_shown, denied_shown, full_shown, part_shown, saying, whole_shown}
+use Rattle.session.specs.Course.{Course, NoRoom, Crowded, Full, Barred, Kept, Brought, Short, Content, course_calls, IsAnswerOf, IsBounded, IsPlanned}
 use Rattle.session.specs.Doing.{Called, Doing, then}
 use Rattle.session.specs.Refresh.{Refreshing, NoBegin, NotDue, Crowded as Thronged, Gathered, Ungathered, refresh_calls}
 use Rattle.session.specs.Session.{Runs}
 use Rattle.session.specs.Telling.{TellsOf, AllTellOf, IsFailure, BroughtNothing}
+use Rattle.session.specs.declared.constant.Constant.TheVariants as constant
 use Rattle.session.specs.declared.ending.Ending.{Ending}
 use Rattle.session.specs.declared.ending.Ending.TheVariants as ending
 use Rattle.session.specs.declared.ending.Next.{Next}
@@ -65,3 +74,62 @@ nothing_is_502 manner (Full count) answer failed shown = absurd failed
 nothing_is_502 manner (Barred delivery rule at line) answer failed shown = absurd failed
 nothing_is_502 manner (Kept delivery fetch kind body at line) answer failed shown = absurd failed
 nothing_is_502 manner (Short delivery fetch plan made how ended closed at line) answer failed shown = absurd failed
+
+-- ---- and nothing else is one
+
+other_rule : (rule : Rule) → rule_status rule ≡ 502 → ⊥
+other_rule rule.Method e = omega (arith, e)
+other_rule rule.NoMetadata e = omega (arith, e)
+other_rule (rule.MetadataInvalid trigger) e = omega (arith, e)
+other_rule rule.NoHost e = omega (arith, e)
+other_rule (rule.Unenforceable kind) e = omega (arith, e)
+other_rule (rule.Location number) e = omega (arith, e)
+other_rule (rule.Time number) e = omega (arith, e)
+other_rule (rule.Protocol number) e = omega (arith, e)
+other_rule rule.NoSource e = omega (arith, e)
+
+other_part : (manner : Manner) (kind body : List ℕ) (part : Span) → (part_shown manner kind body part).0.status ≡ 502 → ⊥
+other_part manner kind body span.Whole e = omega (arith, e)
+other_part manner kind body (span.Part first last) e = omega (arith, e)
+other_part manner kind body span.Unsatisfiable e = omega (arith, e)
+
+other_content : (manner : Manner) (kind body : List ℕ) → (content_shown manner kind body).0.status ≡ 502 → ⊥
+unfolding content_shown
+other_content manner kind body = elim (manner.is_head) as (λ (b : Bool). (cond b (record (saying manner 200 kind (length body)) { ranges = true }, []) (part_shown manner kind body (span_of manner.want (length body)))).0.status ≡ 502 → ⊥) [
+  | true ↦ λ e. omega (arith, e)
+  | false ↦ other_part manner kind body (span_of manner.want (length body))
+]
+
+shown_status : (shown : Shown) (answer : Answer) → IsShown shown answer → answer.status ≡ 502 → shown.0.status ≡ 502
+shown_status shown answer is e = sym (ap (λ (a : Answer). a.status) is.is) ∙ e
+
+constant_other : (answer : Answer) → IsConstant constant.Unavailable answer → answer.status ≡ 502 → ⊥
+constant_other answer is e = omega (arith, ap (λ (a : Answer). a.status) is, e)
+
+-- what an origin gave is answered with its status, or as content
+got_status : (status : ℕ) → IsTrue (is_got_status status) → status ≡ 502 → ⊥
+got_status status is e = both_ways _ (subst (λ (n : ℕ). is_got_status n ≡ false) (sym e) refl) is
+
+got_other : (manner : Manner) (got : GotParts) → IsGot got → (brought_shown manner (outcome.Got got)).0.status ≡ 502 → ⊥
+got_other manner got is = elim (got.status == 200) as (λ (b : Bool). (cond b (content_shown manner got.kind got.body) (whole_shown manner got.status got.kind got.body)).0.status ≡ 502 → ⊥) [
+  | true ↦ other_content manner got.kind got.body
+  | false ↦ got_status got.status is.0
+]
+
+failed_of : (manner : Manner) (how : Outcome) (answer : Answer) → IsBounded how → (how ≡ outcome.Memory → ⊥) → IsShown (brought_shown manner how) answer → answer.status ≡ 502 → IsFailure how
+failed_of manner (outcome.Got got) answer bounded other shown e = absurd (got_other manner got bounded (shown_status (brought_shown manner (outcome.Got got)) answer shown e))
+failed_of manner (outcome.Refused status) answer bounded other shown e = tt
+failed_of manner (outcome.TooLong size) answer bounded other shown e = tt
+failed_of manner (outcome.Malformed taken) answer bounded other shown e = tt
+failed_of manner (outcome.Cut taken) answer bounded other shown e = tt
+failed_of manner outcome.Failed answer bounded other shown e = tt
+failed_of manner outcome.Memory answer bounded other shown e = absurd (other refl)
+
+pub only_nothing_is_502 : (manner : Manner) (target : Target) (course : Course) (answer : Answer) → IsPlanned target course → IsAnswerOf manner course answer → answer.status ≡ 502 → BroughtNothing course
+only_nothing_is_502 manner target (Brought delivery fetch plan made how ended closed at line) answer planned shown e = failed_of manner how answer planned.2 planned.1 shown e
+only_nothing_is_502 manner target NoRoom answer planned is e = constant_other answer is e
+only_nothing_is_502 manner target (Crowded count) answer planned shown e = omega (arith, shown_status (full_shown manner count) answer shown e)
+only_nothing_is_502 manner target (Full count) answer planned shown e = omega (arith, shown_status (full_shown manner count) answer shown e)
+only_nothing_is_502 manner target (Barred delivery rule at line) answer planned shown e = other_rule rule (shown_status (denied_shown manner rule) answer shown e)
+only_nothing_is_502 manner target (Kept delivery fetch kind body at line) answer planned shown e = other_content manner kind body (shown_status (content_shown manner kind body) answer shown e)
+only_nothing_is_502 manner target (Short delivery fetch plan made how ended closed at line) answer planned is e = constant_other answer is e

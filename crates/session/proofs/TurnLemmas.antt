@@ -31,7 +31,7 @@ use Rattle.session.specs.Ending.{next_of}
 use Rattle.session.specs.Moment.{capped}
 use Rattle.session.specs.Request.{asked_of, manner_of, read_of}
 use Rattle.session.specs.Session.{LeavesNext}
-use Rattle.session.specs.Turn.{Turn, TurnBehind, HasNoRequest, IsRefused, IsRefusedBody, BreaksOff, Answers, IsControl, Writes, bad_next}
+use Rattle.session.specs.Turn.{AnnouncesMore, Turn, TurnBehind, HasNoRequest, IsRefused, IsRefusedBody, BreaksOff, Answers, IsControl, Writes, bad_next}
 use Rattle.session.specs.declared.constant.Constant.{Constant}
 use Rattle.session.specs.declared.constant.Constant.TheVariants as constant
 use Rattle.session.specs.declared.ending.Ending.{Ending}
@@ -163,7 +163,7 @@ refused front who a g g' t k k' sent left left' inbox inbox' settings place last
 
 -- the request was not read whole, and nothing was written
 pub broken : (front part : List ℕ) (who : Who) (a : History → Type 0) (g g' : Option (List ℕ)) (t : Option (List Exchange)) (k : Option (List ℕ)) (left left' : Option (List ℕ)) (inbox inbox' : List ℕ) (settings : Settings) (place : Place) (last : Bool) (head : HeadParts) (moment : ℕ) (after : Next)
-    → Spells front head → BreaksOff part [] after → Grows g g' (moment ∷ []) → Moves left left' inbox inbox' part → LeavesNext left' inbox' after
+    → Spells front head → BreaksOff (asked_of settings.protocol head) (framing_of head.headers) part [] after → Grows g g' (moment ∷ []) → Moves left left' inbox inbox' part → LeavesNext left' inbox' after
     → TurnedBehind front who a a g g' t t k k left left' inbox inbox' settings place last after
 broken front part who a g g' t k left left' inbox inbox' settings place last head moment after spells breaks grows moves leaves = (
   record nothing { bytes = part; moments = moment ∷ [] },
@@ -181,9 +181,9 @@ broken front part who a g g' t k left left' inbox inbox' settings place last hea
   record { moments = grows; exchanges = grows_none t; written = (does_nothing who Any a g t k).written; calls = (does_nothing who Any a g t k).calls },
 )
 
-breaks_short : (part written : List ℕ) (fault : Bool) → Writes constant.Unavailable written fault → BreaksOff part written (next_of false true fault)
-breaks_short part written true w = w
-breaks_short part written false w = w
+breaks_short : (asked : Option Asked) (told : Framing) (part written : List ℕ) (fault : Bool) → Writes constant.Unavailable written fault → BreaksOff asked told part written (next_of false true fault)
+breaks_short asked told part written true w = w
+breaks_short asked told part written false w = w
 
 -- or for want of memory
 pub broken_short : (front part : List ℕ) (who : Who) (a : History → Type 0) (g g' : Option (List ℕ)) (t : Option (List Exchange)) (k k' : Option (List ℕ)) (sent : Sent) (left left' : Option (List ℕ)) (inbox inbox' : List ℕ) (settings : Settings) (place : Place) (last : Bool) (head : HeadParts) (moment : ℕ) (after : Next)
@@ -199,7 +199,7 @@ broken_short front part who a g g' t k k' sent left left' inbox inbox' settings 
         moment = moment;
         only = record { spells = spells; moments = refl; exchanges = refl; calls = refl };
         bytes = refl;
-        breaks = breaks_short part s.written sent.fault (writes constant.Unavailable k k' sent s);
+        breaks = breaks_short (asked_of settings.protocol head) (framing_of head.headers) part s.written sent.fault (writes constant.Unavailable k k' sent s);
       }))),
       moves,
       stops_free left' inbox' false true sent.fault,
@@ -288,13 +288,19 @@ body_large (framing.Length count) left left' inbox inbox' len reads = elim (case
   | inr within ↦ absurd (reads.1 within)
 ]
 
+cut_not_large : (count taken : ℕ) → body.CutShort taken ≡ body.TooLarge count → ⊥
+cut_not_large count taken e = cc
+
 -- the body was not read whole
-pub body_cut : (told : Framing) (left left' : Option (List ℕ)) (inbox inbox' : List ℕ) (taken : ℕ) → ReadsBody BODY_LIMIT left left' inbox inbox' told (body.CutShort taken)
-    → (part : List ℕ) × Moves left left' inbox inbox' part × (length part ≡ taken) × IsAtEnd left' × (inbox' ≡ [])
-body_cut framing.Coded left left' inbox inbox' taken reads = cc
-body_cut framing.BadLength left left' inbox inbox' taken reads = cc
-body_cut (framing.Length count) left left' inbox inbox' taken reads =
-    let r = within_limit count left left' inbox inbox' (body.CutShort taken) (λ len e. cc) reads in (r.0, r.1, r.2, r.4, r.5)
+pub body_cut : (asked : Option Asked) (some : Asked) (told : Framing) (left left' : Option (List ℕ)) (inbox inbox' : List ℕ) (taken : ℕ) → asked ≡ Some some → ReadsBody BODY_LIMIT left left' inbox inbox' told (body.CutShort taken)
+    → (part : List ℕ) × Moves left left' inbox inbox' part × (length part ≡ taken) × AnnouncesMore asked told taken × IsAtEnd left' × (inbox' ≡ [])
+body_cut asked some framing.Coded left left' inbox inbox' taken is reads = cc
+body_cut asked some framing.BadLength left left' inbox inbox' taken is reads = cc
+body_cut asked some (framing.Length count) left left' inbox inbox' taken is reads = elim (cases_lt BODY_LIMIT count) [
+  | inl above ↦ absurd (cut_not_large count taken (reads.0 above).0)
+  | inr within ↦ let r = reads.1 within in
+      (r.0, r.1, r.2, subst (λ (x : Option Asked). AnnouncesMore x (framing.Length count) taken) (sym is) (within, r.3), r.4, r.5)
+]
 
 pub body_fault : (told : Framing) (left left' : Option (List ℕ)) (inbox inbox' : List ℕ) → ReadsBody BODY_LIMIT left left' inbox inbox' told body.ReadFault → (part : List ℕ) × Moves left left' inbox inbox' part
 body_fault framing.Coded left left' inbox inbox' reads = cc

@@ -9,6 +9,7 @@ use Rattle.history.specs.declared.reply.Reply.TheVariants as reply
 use Rattle.location_acl.specs.declared.footprint.Place.{Place}
 use Rattle.targets.specs.declared.endpoint.Endpoint.{Endpoint}
 use Rattle.targets.specs.declared.target.Target.{Target}
+use Rattle.upstream_gate.specs.Got.{IsGot}
 use Rattle.upstream_gate.specs.Outcome.{Exchange}
 use Rattle.upstream_gate.specs.Plan.{origin_form, Asked as IsAsked}
 use Rattle.upstream_gate.specs.declared.outcome.Outcome.{Outcome}
@@ -77,10 +78,15 @@ course_exchanges (Kept delivery fetch kind body at line) = []
 course_exchanges (Brought delivery fetch plan made how ended closed at line) = made
 course_exchanges (Short delivery fetch plan made how ended closed at line) = made
 
+-- what an origin gave has the status 200, 404 or 410, and a body within the limit
+abbrev pub IsBounded : Outcome → Type 0
+IsBounded (outcome.Got got) = IsGot got
+IsBounded other = Unit {0}
+
 -- The plan was asked for the target, and what is shown is not want of memory.
 abbrev pub IsPlanned : Target → Course → Type 0
 IsPlanned target (Brought delivery fetch plan made how ended closed at line) =
-    IsAsked (origin_form target) plan made how × (how ≢ outcome.Memory)
+    IsAsked (origin_form target) plan made how × (how ≢ outcome.Memory) × IsBounded how
 IsPlanned target (Short delivery fetch plan made how ended closed at line) = IsAsked (origin_form target) plan made how
 IsPlanned target NoRoom = Unit {0}
 IsPlanned target (Crowded count) = Unit {0}
@@ -151,7 +157,7 @@ pub record Content (root : Target) (asked : Asked) (place : Place) (manner : Man
 -- what is answered with the outcome of a fetch: the constant 503 where no memory was found
 abbrev pub AnswersFetched : Manner → Outcome → Bool → Answer → Type 0
 AnswersFetched manner how true answer = IsConstant constant.Unavailable answer
-AnswersFetched manner how false answer = (how ≢ outcome.Memory) × IsShown (brought_shown manner how) answer
+AnswersFetched manner how false answer = (how ≢ outcome.Memory) × IsBounded how × IsShown (brought_shown manner how) answer
 
 -- what passes from the end of the fetch on
 pub record DeliversFetched (manner : Manner) (delivery fetch : ℕ) (how : Outcome) (d : Doing) (after : Next) : Type 0 where

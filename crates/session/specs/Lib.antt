@@ -1,4 +1,5 @@
 pub mod Answer
+pub mod Answered
 pub mod Content
 pub mod Course
 pub mod Doing
@@ -8,6 +9,7 @@ pub mod Gathering
 pub mod Law
 pub mod Moment
 pub mod Open
+pub mod Recorded
 pub mod Refresh
 pub mod Request
 pub mod Session

@@ -1,5 +1,5 @@
 -- A whole connection.
-use Rattle.std.specs.Prelude.{◌≡◌, ℕ, ◌+◌, ◌-◌, List, [], ◌∷◌, ◌==◌}
+use Rattle.std.specs.Prelude.{◌≡◌, ℕ, ◌+◌, ◌-◌, ◌<◌, List, [], ◌∷◌, ◌==◌}
 use Rattle.std.specs.declared.option.Option.{Option}
 use Rattle.std.specs.Io.KnownBytes.{IsAtEnd}
 use Rattle.location_acl.specs.declared.footprint.Place.{Place}
@@ -17,10 +17,11 @@ abbrev pub Goes : Next → Type 0 → (Ending → Type 0) → Type 0
 Goes next.GoesOn On Ends = On
 Goes (next.Stops end) On Ends = Ends end
 
--- After so many answered requests, and what was done in them, these turns lead to the ending and to all that was done.
+-- After so many answered requests, and what was done in them, these turns lead to the ending and to all that was done; a
+-- connection has no turn behind its last one.
 unfoldable pub Runs : Settings → Place → ℕ → Doing → List Doing → Ending → Doing → Type 0
 Runs settings place n done [] end all = (n ≡ TURNS_MAX) × (end ≡ ending.Turns) × (all ≡ done)
-Runs settings place n done (d ∷ ds) end all = (after : Next) × Turn settings place (n == TURNS_MAX - 1) d after
+Runs settings place n done (d ∷ ds) end all = (n < TURNS_MAX) × (after : Next) × Turn settings place (n == TURNS_MAX - 1) d after
     × Goes after (Runs settings place (n + 1) (then done d) ds end all)
     (λ last. (ds ≡ []) × (end ≡ last) × (all ≡ then done d))
 

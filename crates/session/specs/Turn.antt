@@ -1,5 +1,5 @@
 -- One request of a connection, or why there is none.
-use Rattle.std.specs.Prelude.{◌≡◌, ◌⊎◌, ℕ, ◌<◌, Bool, true, false, not, List, [], ◌∷◌, ◌++◌, length, None, Some, bytes_eq}
+use Rattle.std.specs.Prelude.{◌≡◌, ◌⊎◌, ℕ, ◌<◌, ◌≤◌, Bool, true, false, not, List, [], ◌∷◌, ◌++◌, length, None, Some, bytes_eq}
 use Rattle.std.specs.declared.option.Option.{Option}
 use Rattle.cdni_base.specs.declared.asked.Asked.{Asked}
 use Rattle.http_wire.specs.Body.{framing_of}
@@ -78,23 +78,31 @@ pub record Refusal (settings : Settings) (last : Bool) (d : Doing) (after : Next
   pub writes : Writes which d.written fault
   pub goes : after ≡ next_of (not last) false fault
 
+-- the head asks for something, and of its body, which is within the limit, more is announced than so many bytes
+abbrev pub AnnouncesMore : Option Asked → Framing → ℕ → Type 0
+AnnouncesMore None told taken = ⊥
+AnnouncesMore (Some asked) framing.Coded taken = ⊥
+AnnouncesMore (Some asked) framing.BadLength taken = ⊥
+AnnouncesMore (Some asked) (framing.Length count) taken = (count ≤ BODY_LIMIT) × (taken < count)
+
 -- a request that was not read whole: its body was cut short after so many bytes, or the source failed, or no memory was
 -- found, which is answered 503
-abbrev pub BreaksOff : List ℕ → List ℕ → Next → Type 0
-BreaksOff part written (next.Stops (ending.CutShort taken)) = (length part ≡ taken) × (written ≡ [])
-BreaksOff part written (next.Stops ending.ReadFault) = written ≡ []
-BreaksOff part written (next.Stops ending.Memory) = Writes constant.Unavailable written false
-BreaksOff part written (next.Stops ending.WriteFault) = Writes constant.Unavailable written true
-BreaksOff part written other = ⊥
+abbrev pub BreaksOff : Option Asked → Framing → List ℕ → List ℕ → Next → Type 0
+BreaksOff asked told part written (next.Stops (ending.CutShort taken)) = (length part ≡ taken) × (written ≡ [])
+    × AnnouncesMore asked told taken
+BreaksOff asked told part written (next.Stops ending.ReadFault) = written ≡ []
+BreaksOff asked told part written (next.Stops ending.Memory) = Writes constant.Unavailable written false
+BreaksOff asked told part written (next.Stops ending.WriteFault) = Writes constant.Unavailable written true
+BreaksOff asked told part written other = ⊥
 
-pub record Broken (d : Doing) (after : Next) : Type 0 where
+pub record Broken (settings : Settings) (d : Doing) (after : Next) : Type 0 where
   pub head : HeadParts
   pub front : List ℕ
   pub part : List ℕ
   pub moment : ℕ
   pub only : OnlyHead head front moment d
   pub bytes : d.bytes ≡ front ++ part
-  pub breaks : BreaksOff part d.written after
+  pub breaks : BreaksOff (asked_of settings.protocol head) (framing_of head.headers) part d.written after
 
 -- a request that was read whole, with a body of as many bytes as are announced, and what passed since
 pub record Whole (settings : Settings) (asked : Asked) (head : HeadParts) (moment : ℕ) (inner d : Doing) : Type 0 where
@@ -143,7 +151,7 @@ pub record Served (settings : Settings) (place : Place) (last : Bool) (d : Doing
 -- a request, which may be the last of its connection, or why there is none; and what follows
 abbrev pub Turn : Settings → Place → Bool → Doing → Next → Type 0
 Turn settings place last d after = ((end : Ending) × (after ≡ next.Stops end) × NoHead d end)
-    ⊎ (Refusal settings last d after ⊎ (Broken d after ⊎ Served settings place last d after))
+    ⊎ (Refusal settings last d after ⊎ (Broken settings d after ⊎ Served settings place last d after))
 
 -- the same, but for the bytes of the head, which were taken before
 abbrev pub TurnBehind : List ℕ → Settings → Place → Bool → Doing → Next → Type 0

@@ -8,6 +8,8 @@ ghost use Rattle.cdni_base.specs.declared.date.TheConstants.{DATE_END};
 ghost use Rattle.edge_base.specs.Write.{HasCause};
 ghost use Rattle.session.specs.Answer.{IsSaid, Says, kind_in, saying_of};
 ghost use Rattle.session.specs.Content.{IsShown, saying, whole_shown, denied_shown, full_shown, part_shown, content_shown, gateway_text, brought_shown, absent_shown, allow_of, body_for};
+ghost use Rattle.session.specs.Course.{IsBounded};
+ghost use Rattle.upstream_gate.specs.Got.{IsGot};
 
 use crate::manner::Manner;
 use crate::send::{Sent, send, send_joined};
@@ -102,6 +104,7 @@ impl AnswerRoom {
     pub(crate) fn show<K: Sink>(&mut self, sink: &mut K, manner: &Manner, outcome: &Outcome) -> Sent
         requires { manner.now.moment < DATE_END }
         ensures says { Says (IsShown (brought_shown manner.now outcome.now)) (K.held sink.old) (K.held sink.new) result }
+        ensures bounded { IsBounded outcome.now }
         ensures cause { HasCause (K.faults sink.old) (K.faults sink.new) result.fault }
     {
         if let Outcome::Got(got) = outcome {
@@ -255,6 +258,7 @@ fn show_got<K: Sink>(sink: &mut K, scratch: &mut Scratch, manner: &Manner, got: 
     requires moment { manner.now.moment < DATE_END }
     ensures says { Says (IsShown (brought_shown manner.now (Outcome.Got got.now)))
         (K.held sink.old) (K.held sink.new) result }
+    ensures bounded { IsGot got.now }
     ensures cause { HasCause (K.faults sink.old) (K.faults sink.new) result.fault }
     ensures room { scratch.new.room ≡ ANSWER_HEAD_MAX }
 {

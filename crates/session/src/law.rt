@@ -1,18 +1,28 @@
 //! What holds of every session. Each function does nothing: its contract is the law.
 
-ghost use Rattle.std.specs.Prelude.{◌≡◌, length};
+ghost use Rattle.std.specs.Prelude.{◌≡◌, ◌<◌, ◌↔◌, false, length};
 ghost use Rattle.cdni_base.specs.declared.asked.Asked.{Asked};
+ghost use Rattle.history.specs.Event.{History};
 ghost use Rattle.location_acl.specs.declared.footprint.Place.{Place};
+ghost use Rattle.node_core.specs.Home.{Who};
 ghost use Rattle.targets.specs.declared.target.Target.{Target};
-ghost use Rattle.session.specs.Course.{Content};
-ghost use Rattle.session.specs.Doing.{Doing};
+ghost use Rattle.session.specs.Answer.{wire};
+ghost use Rattle.session.specs.Answered.{answered};
+ghost use Rattle.session.specs.Course.{Content, IsAnswerOf};
+ghost use Rattle.session.specs.Doing.{Doing, Told};
 ghost use Rattle.session.specs.Ended.{AllEnded};
+ghost use Rattle.session.specs.Recorded.{AllRecorded};
 ghost use Rattle.session.specs.Session.{Session};
 ghost use Rattle.session.specs.Telling.{AllTellOf, BroughtNothing};
 ghost use Rattle.session.specs.declared.ending.Ending.{Ending};
+ghost use Rattle.session.specs.declared.ending.Ending.TheVariants as ending;
 ghost use Rattle.session.specs.declared.ending.Next.{Next};
 ghost use Rattle.session.specs.declared.manner.Manner.{Manner};
+ghost use Rattle.session.specs.declared.serve.TheConstants.{TURNS_MAX};
 ghost use Rattle.session.specs.declared.settings.Settings.{Settings};
+
+use delivery_law::log_rows::each_row_belongs_to_one_finish_and_one_admit;
+use history::laws::what_is_open_has_begun_and_not_ended;
 
 /// Each delivery that is admitted in a session is finished in it, and each fetch and refresh that is begun is ended.
 pub fn what_is_opened_is_ended()
@@ -33,4 +43,42 @@ pub fn a_fetch_that_brings_nothing_is_a_bad_gateway()
     ensures { (root : Target) (asked : Asked) (place : Place) (manner : Manner) (d : Doing) (after : Next)
         → (content : Content root asked place manner d after)
         → BroughtNothing content.course → content.answer.status ≡ 502 }
+{}
+
+/// Each delivery that is ended in a session has its row in what a history leaves in which the session's calls were made, with
+/// the status, the bytes and the moment that were told.
+pub fn each_delivery_of_a_session_has_its_row()
+    ensures { (who : Who) (settings : Settings) (place : Place) (d : Doing) (end : Ending) (h last : History)
+        → Session settings place d end → Told who h d.calls last → AllRecorded who.made last d.calls }
+{
+    what_is_open_has_begun_and_not_ended();
+    each_row_belongs_to_one_finish_and_one_admit();
+}
+
+/// Where the sink did not fail, it took the whole answer to a request for content, which is that of how the delivery went: a denial,
+/// what was kept or fetched, a reached limit, or want of memory.
+pub fn a_request_for_content_is_answered_whole()
+    ensures whole { (root : Target) (asked : Asked) (place : Place) (manner : Manner) (d : Doing) (after : Next)
+        → (content : Content root asked place manner d after)
+        → content.fault ≡ false → d.written ≡ wire content.answer }
+    ensures answer { (root : Target) (asked : Asked) (place : Place) (manner : Manner) (d : Doing) (after : Next)
+        → (content : Content root asked place manner d after)
+        → IsAnswerOf manner content.course content.answer }
+{}
+
+/// The answer is 502 only where the origins were asked and brought nothing.
+pub fn a_bad_gateway_comes_of_nothing_else()
+    ensures { (root : Target) (asked : Asked) (place : Place) (manner : Manner) (d : Doing) (after : Next)
+        → (content : Content root asked place manner d after)
+        → content.answer.status ≡ 502 → BroughtNothing content.course }
+{}
+
+/// A session ends in `Turns` exactly where 1,000 requests were answered in it, and in `Closed` only where fewer were.
+pub fn a_thousand_answers_end_a_session()
+    ensures turns { (settings : Settings) (place : Place) (d : Doing) (end : Ending)
+        → (session : Session settings place d end)
+        → (end ≡ ending.Turns) ↔ (answered session.0 end ≡ TURNS_MAX) }
+    ensures closed { (settings : Settings) (place : Place) (d : Doing) (end : Ending)
+        → (session : Session settings place d end)
+        → end ≡ ending.Closed → answered session.0 end < TURNS_MAX }
 {}

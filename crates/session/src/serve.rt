@@ -12,7 +12,9 @@ use crate::answer_room::AnswerRoom;
 use crate::content::fall_short;
 use crate::ending::{Ending, Next};
 use crate::law::{
-    a_fetch_that_brings_nothing_is_a_bad_gateway, the_end_of_a_delivery_tells_what_was_written,
+    a_bad_gateway_comes_of_nothing_else, a_fetch_that_brings_nothing_is_a_bad_gateway,
+    a_request_for_content_is_answered_whole, a_thousand_answers_end_a_session,
+    each_delivery_of_a_session_has_its_row, the_end_of_a_delivery_tells_what_was_written,
     what_is_opened_is_ended,
 };
 use crate::settings::{Peer, Settings};
@@ -66,6 +68,10 @@ pub fn serve_session<R: Threads + Wait + Sync, H: Home, S: Source, K: Sink, G: G
     what_is_opened_is_ended();
     the_end_of_a_delivery_tells_what_was_written();
     a_fetch_that_brings_nothing_is_a_bad_gateway();
+    a_bad_gateway_comes_of_nothing_else();
+    a_request_for_content_is_answered_whole();
+    a_thousand_answers_end_a_session();
+    each_delivery_of_a_session_has_its_row();
     let Ok((mut inbox, mut room)) = make_room(alloc) else {
         return match fall_short(sink) {
             Next::Stops(ending) => ending,

@@ -113,6 +113,7 @@ fn home_of(alloc: Global, case: &Value) -> anyhow::Result<TellingHome<OneHome>> 
     let node = Node::new(alloc, &limits, field::text_of(alloc, case, "origin")?)?;
     Ok(TellingHome {
         home: OneHome { node, number: 0 },
+        tells: case.get("silent").is_none(),
         lines: Vec::new(alloc),
         is_whole: true,
     })

@@ -17,7 +17,7 @@ turns-preserved g c =
     record {
       who = turn.who ∙ c.turns.invariant.who;
       stays = g.met.H.Home.stays_on _ _ _ c.turns.invariant.stays turn.stays;
-      so_far = goes_on c.args.settings.now c.args.peer.now.place c.turns.turn _ _ _ _ _ _ _ _ _ _ _ _ _ _ _ _ _ _ _ c.turns.invariant.so_far refl _ c.turns.invariant.who turn.does;
+      so_far = goes_on c.args.settings.now c.args.peer.now.place c.turns.turn _ _ _ _ _ _ _ _ _ _ _ _ _ _ _ _ _ _ _ c.turns.invariant.so_far refl (omega (arith, c.turns-test.true, c.turns.auto.turn-end)) _ c.turns.invariant.who turn.does;
       write_later = omega (arith, c.turns.invariant.write_later, turn.later);
       read_later = omega (arith, c.turns.invariant.read_later, turn.read_later);
     }
@@ -39,7 +39,7 @@ returns-in_default-clause-law g c = λ h saw at entry answer a. c.every_answer_i
 
 pub returns-in-Stops-serve_one-clause-session : goal.returns-in-Stops-serve_one-clause-session
 returns-in-Stops-serve_one-clause-session g c =
-    stops c.args.settings.now c.args.peer.now.place c.turns.turn _ _ _ _ _ _ _ _ _ _ _ _ _ _ _ _ _ _ _ _ c.turns.invariant.so_far refl _ c.turns.invariant.who c.in-Stops-serve_one.ensures.does
+    stops c.args.settings.now c.args.peer.now.place c.turns.turn _ _ _ _ _ _ _ _ _ _ _ _ _ _ _ _ _ _ _ _ c.turns.invariant.so_far refl (omega (arith, c.turns-test.true, c.turns.auto.turn-end)) _ c.turns.invariant.who c.in-Stops-serve_one.ensures.does
 
 pub returns-in-Stops-serve_one-clause-law : goal.returns-in-Stops-serve_one-clause-law
 returns-in-Stops-serve_one-clause-law g c = λ h saw at entry answer a. c.every_answer_is_lawful.ensures _ a.before entry.0 entry.1 answer (sym a.answered)

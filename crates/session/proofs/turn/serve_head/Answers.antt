@@ -44,8 +44,9 @@ returns-in-TooLarge-clause-does g c = λ front spells.
 pub returns-in-CutShort-clause-does : goal.returns-in-CutShort-clause-does
 returns-in-CutShort-clause-does g c = λ front spells.
     let clock = c.read_clock-moment.ensures.read in
-    let cut = body_cut (framing_of c.args.head.now.headers) (g.S.Source.left c.args.source.now) (g.S.Source.left c.body_of.new.source) c.args.inbox.now c.body_of.new.inbox c.in-CutShort.taken c.in-CutShort.ensures.bytes in
-    broken front cut.0 _ _ _ _ _ _ _ _ _ _ c.args.settings.now c.args.place c.args.last c.args.head.now clock.0 _ spells (cut.2, refl) clock.1 cut.1 (cut.3, cut.4)
+    let read = read_some _ _ _ _ _ (sym c.in-Ok-Some.field-0-is ∙ c.in-Ok-Some.ensures) in
+    let cut = body_cut _ c.in-Ok-Some.asked (framing_of c.args.head.now.headers) (g.S.Source.left c.args.source.now) (g.S.Source.left c.body_of.new.source) c.args.inbox.now c.body_of.new.inbox c.in-CutShort.taken read.0 c.in-CutShort.ensures.bytes in
+    broken front cut.0 _ _ _ _ _ _ _ _ _ _ c.args.settings.now c.args.place c.args.last c.args.head.now clock.0 _ spells (cut.2, refl, cut.3) clock.1 cut.1 (cut.4, cut.5)
 
 pub returns-in-ReadFault-clause-does : goal.returns-in-ReadFault-clause-does
 returns-in-ReadFault-clause-does g c = λ front spells.

@@ -2,7 +2,8 @@
 # Instructions of a hit on a kept-alive connection, from the first byte of its head to the end of its delivery: `serve_session` over
 # one node, ends in memory, a gate and a clock in memory, counted under callgrind within `serve_session` alone. Each head comes in one
 # read; the connection has a request that misses, and then 100 or 900 that hit. It prints the slope between the two, for a body of 1 KB
-# and of 64 KB, how it is shared among the crates, and how many calls of the allocator a hit makes, whatever the body's length.
+# and of 64 KB, how it is shared among the crates, and how many calls of the allocator a hit makes, whatever the body's length. What the
+# program `session_cases` does itself, whose home and gate could write down what is called, is printed apart and not counted.
 # It ends with status 1 where a hit of 1 KB takes more than 12,000 instructions, or where the longer body has more allocations.
 # Usage: bench/session.sh   (needs valgrind and python3; builds the program by `rt run` where it is not built)
 set -eu
@@ -37,7 +38,7 @@ print(json.dumps({
         "peer": {"ip": "192.0.2.7", "asn": 64496, "country": "us"},
         "source": [[head, hits + 1]], "reads": [[len(head), hits + 1]], "takes": [],
         "written": [[answer + body, hits + 1]], "ending": "Ended", "calls": [],
-        "asks": [["up.example:80", "/i"], ["o.example:80", "/films/seg/000001.ts"]],
+        "asks": [["up.example", "/i"], ["o.example", "/films/seg/000001.ts"]],
     }],
 }))
 END
@@ -55,7 +56,7 @@ profile() {
 slope() {
   profile 100 "$1"
   profile 900 "$1"
-  python3 bench/session_shares.py "$room/100-$1" "$room/900-$1" 800
+  python3 bench/session_shares.py "$room/100-$1" "$room/900-$1" 800 session_cases
 }
 
 short=$(slope 1024)

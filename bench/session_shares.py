@@ -1,6 +1,7 @@
 """Compares two profiles of callgrind: what a step takes, as the slope between them, and how it is shared among the crates.
 
-Usage: session_shares.py FEW MANY STEPS. The first line says `N instructions, M allocations`, the others the share of each crate.
+Usage: session_shares.py FEW MANY STEPS PROGRAM. The first line says `N instructions, M allocations`, without those of the crate PROGRAM,
+which stands between what is measured and its home; the others say the share of each crate.
 """
 import collections
 import re
@@ -47,13 +48,14 @@ def crate_of(function):
 
 
 def main():
-    few, many, steps = sys.argv[1], sys.argv[2], int(sys.argv[3])
+    few, many, steps, program = sys.argv[1], sys.argv[2], int(sys.argv[3]), sys.argv[4]
     (own, allocations), (more, more_allocations) = read(few), read(many)
-    own = collections.Counter({f: more[f] - own[f] for f in more})
-    print(f"{sum(own.values()) // steps} instructions, {(more_allocations - allocations) // steps} allocations")
     crates = collections.Counter()
-    for function, count in own.items():
-        crates[crate_of(function)] += count
+    for function in more:
+        crates[crate_of(function)] += more[function] - own[function]
+    beside = crates.pop(program, 0)
+    print(f"{sum(crates.values()) // steps} instructions, {(more_allocations - allocations) // steps} allocations")
+    print(f"  and {beside // steps} of {program} itself")
     for crate, count in crates.most_common():
         if count >= steps:
             print(f"  {crate} {count // steps}")

@@ -4,8 +4,10 @@
 
 mod address;
 mod door;
+mod memory_door;
 mod outside;
 
 pub use address::read_address;
 pub use door::{Accepted, Door};
+pub use memory_door::{Connection, ConnectionList, Ends, MemoryDoor};
 pub use outside::{Outside, OutsideFault, Worker};

@@ -1,0 +1,3 @@
+pub mod Ahead
+pub mod Pace
+pub mod Ready

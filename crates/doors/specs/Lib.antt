@@ -1,0 +1,4 @@
+pub mod Address
+pub mod Door
+pub mod MemoryDoor
+pub mod Outside

@@ -1,0 +1,56 @@
+//! Doors.
+
+ghost use Rattle.std.specs.Prelude.{◌≡◌, ◌≤◌, ℕ};
+ghost use Rattle.std.specs.declared.option.Option.{Option};
+ghost use Rattle.edge_base.specs.Causes.{Rose};
+ghost use Rattle.doors.specs.Door.{Accepts, Book, HaveNoFaults, IsFailed, Shuts, given_by, shut_of};
+
+use edge_base::{Sink, Source};
+use location_acl::Ip;
+use std::alloc::Global;
+use std::sync::Wait;
+use std::thread::Threads;
+
+/// What a door answers.
+pub enum Accepted<S, K> {
+    /// A connection: the address of its client, and its two ends.
+    One { ip: Ip, source: S, sink: K },
+    /// No connection is left.
+    Closed,
+    /// A fault, which the door has counted.
+    Failed,
+    /// Want of memory.
+    Memory,
+}
+
+/// Gives connections one after the other, and takes each back.
+///
+/// What it has left, what it gave and what was closed may be told, as of a door in memory, or not, as of one over sockets.
+/// The count of faults never falls.
+pub trait Door: Drop {
+    type S: Source + Send;
+
+    type K: Sink + Send;
+
+    ghost book: { Self → Option Book };
+
+    ghost faults: { Self → ℕ };
+
+    /// The next connection, with ends that have counted no fault. Where the door tells, `Closed` comes exactly where none
+    /// is left. It may wait for a client.
+    fn accept<R: Threads + Wait + Sync>(
+        &mut self,
+        rt: &R,
+        alloc: Global,
+    ) -> Accepted<Self::S, Self::K>
+        ensures book { Accepts (book self.old) (book self.new) (given_by Self.S.left Self.K.held result) }
+        ensures fresh { HaveNoFaults Self.S.faults Self.K.faults result }
+        ensures later { faults self.old ≤ faults self.new }
+        ensures cause { IsFailed result → Rose (faults self.old) (faults self.new) };
+
+    /// Closes a connection with both its ends. It never fails.
+    fn close(&mut self, source: Self::S, sink: Self::K)
+        ensures book { Shuts (book self.old) (book self.new)
+            (shut_of Self.S.left Self.S.faults Self.K.held Self.K.faults source sink) }
+        ensures later { faults self.old ≤ faults self.new };
+}

@@ -1,0 +1,208 @@
+//! A door in memory.
+
+ghost use Rattle.std.specs.Prelude.{◌≡◌, ◌++◌, [], ◌∷◌, ◌<◌, All, IfNone, IfOk, IfSome, map, reverse, true};
+ghost use Rattle.std.specs.Vec.{vec_len};
+ghost use Rattle.doors.specs.MemoryDoor.{AcceptsNext, ClosesEnds, Hall, IsUnhurt};
+
+use crate::door::{Accepted, Door};
+use edge_base::{MemorySink, MemorySource};
+use listing::Listing;
+use location_acl::Ip;
+use std::alloc::{AllocError, Global};
+use std::marker::Model;
+use std::snapshot::Snapshot;
+use std::sync::Wait;
+use std::thread::Threads;
+
+/// A connection in memory: the address of its client, and its ends.
+#[derive(Drop)]
+pub struct Connection {
+    pub ip: Ip,
+    pub source: MemorySource,
+    pub sink: MemorySink,
+}
+
+/// Connections in the order in which a door gives them.
+pub type ConnectionList = Listing<Connection>;
+
+/// The ends of a connection that was closed.
+#[derive(Drop)]
+pub struct Ends {
+    pub source: MemorySource,
+    pub sink: MemorySink,
+}
+
+/// A door that gives given connections in order, and fails at given calls. It tells what it has left, what it gave and
+/// what was closed, unless it finds no memory to remember ends that are closed: from then on it tells no more.
+#[derive(Drop)]
+pub struct MemoryDoor {
+    // the next connection last
+    left: Vec<Connection>,
+    fails: Vec<u64>,
+    calls: u64,
+    given: Vec<Snapshot<Connection>>,
+    closed: Vec<Ends>,
+    telling: bool,
+    faults: u64,
+}
+
+impl Model for MemoryDoor {
+    ghost use Rattle.std.specs.Prelude.{All, map, reverse};
+    ghost use Rattle.doors.specs.MemoryDoor.{Hall, IsUnhurt};
+
+    ghost Value = { Hall };
+
+    ghost view = { λ d. record {
+      left = reverse d.left.items;
+      fails = d.fails.items;
+      calls = d.calls;
+      given = map (λ remembered. remembered.value) d.given.items;
+      closed = d.closed.items;
+      telling = d.telling;
+      faults = d.faults;
+    } };
+
+    ghost invariant = { λ d. All IsUnhurt (reverse d.left.items) };
+}
+
+impl MemoryDoor {
+    /// A door that has these connections left. Its k-th call of `accept`, counted from 1, fails where `fails` has k and a
+    /// connection is left.
+    ///
+    /// # Errors
+    /// Want of memory.
+    pub fn new(
+        alloc: Global,
+        given: ConnectionList,
+        fails: &[u64],
+    ) -> Result<MemoryDoor, AllocError>
+        requires unhurt { All IsUnhurt given }
+        ensures { IfOk result (λ d. d ≡ record {
+          left = given;
+          fails = fails.now;
+          calls = 0;
+          given = [];
+          closed = [];
+          telling = true;
+          faults = 0;
+        }) }
+    {
+        let fails = Vec::from_slice(alloc, fails)?;
+        let left = turned(alloc, given)?;
+        Ok(MemoryDoor {
+            left,
+            fails,
+            calls: 0,
+            given: Vec::new(alloc),
+            closed: Vec::new(alloc),
+            telling: true,
+            faults: 0,
+        })
+    }
+
+    /// The ends of the connections that were closed, in order.
+    pub fn closed(&self) -> &[Ends]
+        ensures { result.now ≡ self.now.closed }
+    {
+        &self.closed
+    }
+
+    /// How many of its calls failed, up to 2^64 - 1.
+    pub fn faults(&self) -> u64
+        ensures { result ≡ self.now.faults }
+    {
+        self.faults
+    }
+}
+
+// the connections, the first last
+fn turned(alloc: Global, given: ConnectionList) -> Result<Vec<Connection>, AllocError>
+    ensures { IfOk result (λ left. reverse left.items ≡ given) }
+{
+    let mut given = given;
+    let mut left = Vec::with_capacity(alloc, given.len())?;
+    'connections: while let Some(connection) = given.pop() {
+        left.push(connection)?;
+    }
+    Ok(left)
+}
+
+// takes the last connection and remembers it; none for want of memory
+fn take_last(
+    left: &mut Vec<Connection>,
+    given: &mut Vec<Snapshot<Connection>>,
+) -> Option<Connection>
+    requires { 0 < vec_len left.old }
+    ensures taken { IfSome result (λ c. left.old.items ≡ left.new.items ++ c ∷ []) }
+    ensures remembered { IfSome result (λ c. map (λ r. r.value) given.new.items ≡ map (λ r. r.value) given.old.items ++ c ∷ []) }
+    ensures left { IfNone result (left.new.items ≡ left.old.items) }
+    ensures given { IfNone result (given.new.items ≡ given.old.items) }
+{
+    if given.reserve(1).is_err() {
+        return None;
+    }
+    let connection = left.pop()?;
+    match given.push(Snapshot::of(&connection)) {
+        Ok(()) => Some(connection),
+        Err(_) => unreachable!(),
+    }
+}
+
+impl Door for MemoryDoor {
+    ghost use Rattle.std.specs.Prelude.{◌≡◌, ◌≤◌, Some};
+    ghost use Rattle.edge_base.specs.Causes.{Rose};
+    ghost use Rattle.doors.specs.Door.{Accepts, HaveNoFaults, IsFailed, Shuts, given_by};
+    ghost use Rattle.doors.specs.MemoryDoor.{AcceptsNext, ClosesEnds, book_of, shut_at};
+
+    type S = MemorySource;
+
+    type K = MemorySink;
+
+    ghost book = { book_of };
+
+    ghost faults = { λ d. d.faults };
+
+    /// The next connection, where one is left; a failure where the number of this call is one of those that fail; or want
+    /// of memory to remember the connection.
+    fn accept<R: Threads + Wait + Sync>(
+        &mut self,
+        _rt: &R,
+        _alloc: Global,
+    ) -> Accepted<MemorySource, MemorySink>
+        ensures next { AcceptsNext self.old self.new result }
+        ensures book { Accepts (book_of self.old) (book_of self.new) (given_by (λ s. Some s.left) (λ k. Some k.held) result) }
+        ensures fresh { HaveNoFaults (λ s. s.faults) (λ k. k.faults) result }
+        ensures later { self.old.faults ≤ self.new.faults }
+        ensures cause { IsFailed result → Rose self.old.faults self.new.faults }
+    {
+        self.calls = self.calls.saturating_add(1);
+        if self.left.is_empty() {
+            return Accepted::Closed;
+        }
+        if self.fails.contains(&self.calls) {
+            self.faults = self.faults.saturating_add(1);
+            return Accepted::Failed;
+        }
+        if self.closed.reserve(1).is_err() {
+            return Accepted::Memory;
+        }
+        let Some(connection) = take_last(&mut self.left, &mut self.given) else {
+            return Accepted::Memory;
+        };
+        Accepted::One {
+            ip: connection.ip,
+            source: connection.source,
+            sink: connection.sink,
+        }
+    }
+
+    /// Keeps the ends, where memory is found.
+    fn close(&mut self, source: MemorySource, sink: MemorySink)
+        ensures ends { ClosesEnds self.old self.new (record { source = source; sink = sink }) }
+        ensures book { Shuts (book_of self.old) (book_of self.new) (shut_at (record { source = source; sink = sink })) }
+        ensures later { self.old.faults ≤ self.new.faults }
+    {
+        let kept = self.closed.push(Ends { source, sink }).is_ok();
+        self.telling = self.telling && kept;
+    }
+}

@@ -18,23 +18,23 @@ left_of pace = min (whole_of pace - pace.spent) (pace.quiet - pace.silent)
 -- so many bytes moved
 abbrev pub after_move : ℕ → Pace → Pace
 after_move count pace = record {
-    floor = pace.floor;
-    step = pace.step;
-    quiet = pace.quiet;
-    strict = pace.strict;
-    spent = pace.spent;
-    silent = 0;
-    moved = min (pace.moved + count) most;
-  }
+  floor = pace.floor;
+  step = pace.step;
+  quiet = pace.quiet;
+  strict = pace.strict;
+  spent = pace.spent;
+  silent = 0;
+  moved = min (pace.moved + count) most;
+}
 
 -- the peer was waited for; before the first byte that counts towards the floor where the pace is strict
 abbrev pub after_wait : ℕ → Pace → Pace
 after_wait took pace = record {
-    floor = pace.floor;
-    step = pace.step;
-    quiet = pace.quiet;
-    strict = pace.strict;
-    spent = if pace.strict || not (pace.moved == 0) then min (pace.spent + took) most else pace.spent;
-    silent = min (pace.silent + took) most;
-    moved = pace.moved;
-  }
+  floor = pace.floor;
+  step = pace.step;
+  quiet = pace.quiet;
+  strict = pace.strict;
+  spent = if pace.strict || not (pace.moved == 0) then min (pace.spent + took) most else pace.spent;
+  silent = min (pace.silent + took) most;
+  moved = pace.moved;
+}

@@ -39,7 +39,11 @@ pub(crate) fn front_of(bytes: &[u8]) -> Front
 {
     match head_end(bytes) {
         Some(end) => Front::Whole(end),
-        None => if may_become_head(bytes) { Front::Open } else { Front::Never },
+        None => if may_become_head(bytes) {
+            Front::Open
+        } else {
+            Front::Never
+        },
     }
 }
 
@@ -136,7 +140,11 @@ pub(crate) fn what_follows(head: &[u8]) -> Behind {
             None => {}
             Some((name, value)) => {
                 if name.eq_ignore_ascii_case(b"content-length") {
-                    body = if told { None } else { read_digits(trimmed(value)) };
+                    body = if told {
+                        None
+                    } else {
+                        read_digits(trimmed(value))
+                    };
                     told = true;
                 }
                 if name.eq_ignore_ascii_case(b"transfer-encoding") {

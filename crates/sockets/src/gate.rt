@@ -91,7 +91,11 @@ impl<N: Net<Listener = TcpListener, Stream = TcpStream> + Clock + Clone + Drop> 
         };
         match self.ends(alloc, stream) {
             Ok((mut source, mut sink)) => exchange(
-                alloc, &mut source, &mut sink, ask, BODY_MAX as u64,
+                alloc,
+                &mut source,
+                &mut sink,
+                ask,
+                BODY_MAX as u64,
             ),
             Err(_) => Outcome::Memory,
         }
@@ -129,7 +133,8 @@ fn connect_within<N: Net<Stream = TcpStream>>(
     }
 }
 
-impl<N: Net<Listener = TcpListener, Stream = TcpStream> + Clock + Clone + Drop> Gate for TcpGate<N> {
+impl<N: Net<Listener = TcpListener, Stream = TcpStream> + Clock + Clone + Drop> Gate
+    for TcpGate<N> {
     ghost use Rattle.std.specs.Prelude.{None};
 
     ghost exchanges = { λ _. None };

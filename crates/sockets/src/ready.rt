@@ -147,7 +147,11 @@ fn keeps_pace<C: Clock>(rt: &C, fd: RawFd, events: i16, pace: &mut Pace) -> bool
     let woken = wait_for_one(fd, events, left);
     let took = clock_of(rt).saturating_sub(start);
     // a wait that ended by its time took it whole, whatever the clock says
-    pace.note_wait(if woken == Woken::Neither { took.max(left.min(1_000)) } else { took });
+    pace.note_wait(if woken == Woken::Neither {
+        took.max(left.min(1_000))
+    } else {
+        took
+    });
     true
 }
 

@@ -223,7 +223,8 @@ impl Hub {
             return self.accept(rt, alloc, room);
         }
         match self.unpark(rt, token) {
-            Some(parked) => {
+            Some(mut parked) => {
+                parked.known = true;
                 room.hold(parked.got.as_slice());
                 self.receive(rt, alloc, parked, room)
             }

@@ -13,6 +13,9 @@ use std::time::Clock;
 /// How often a wait is begun again at most.
 const MOST_WAITS: u64 = u64::MAX;
 
+/// What a wait in vain counts at least, in milliseconds, where it may be so long.
+const LEAST_WAIT: u64 = 1_000;
+
 // what a call on a socket that does not wait gave
 #[derive(Clone, Copy, Debug, PartialEq, Eq)]
 pub(crate) enum Moved {
@@ -146,12 +149,13 @@ fn keeps_pace<C: Clock>(rt: &C, fd: RawFd, events: i16, pace: &mut Pace) -> bool
     let start = clock_of(rt);
     let woken = wait_for_one(fd, events, left);
     let took = clock_of(rt).saturating_sub(start);
-    // a wait that ended by its time took it whole, whatever the clock says
-    pace.note_wait(if woken == Woken::Neither {
-        took.max(left.min(1_000))
+    // where the clock cannot be read, a wait in vain counts for a second at most
+    let least = if woken == Woken::Neither {
+        left.min(LEAST_WAIT)
     } else {
-        took
-    });
+        0
+    };
+    pace.note_wait(took.max(least));
     true
 }
 

@@ -236,8 +236,10 @@ impl<W: Wait + Clock + Drop> SocketSource<W> {
                     got => return got,
                 },
                 Woken::Second => {
-                    self.run = Run::Yielded;
-                    return Moved::Later;
+                    if !self.hub.has_idle() {
+                        self.run = Run::Yielded;
+                        return Moved::Later;
+                    }
                 }
                 Woken::Neither => {
                     if self.run == Run::Over {

@@ -1,13 +1,14 @@
 //! Each adapter over real sockets of this machine, with both ends in one process.
 
-use crate::{SocketSink, SocketSource, StdOutside, TcpDoor, TcpGate, WAITS, Waits};
-use cdni_base::{Endpoint, Text};
-use doors::{Accepted, Door, Outside};
-use edge_base::{Clock as _, Sink, Source, write_counted};
+use crate::{StdOutside, TcpDoor, TcpGate, WAITS, Waits};
+use cdni_base::{Endpoint, HostName, Text};
+use doors::{Accepted, Door, Outside, OutsideFault};
+use edge_base::{Sink, Source, write_counted};
+use location_acl::Ip;
 use http_wire::{BodyRead, Found, Head, HeadRead, Inbox, body_of, read_head};
 use std::alloc::{AllocError, Global};
 use std::io::{Read, Write};
-use std::net::{Net, Shutdown, SocketAddr, TcpListener, TcpStream};
+use std::net::{IpAddr, Ipv4Addr, Ipv6Addr, Net, Shutdown, SocketAddr, TcpListener, TcpStream};
 use std::sync::Wait;
 use std::sync::atomic::{AtomicBool, Ordering};
 use std::test::Fail;
@@ -54,6 +55,19 @@ fn hear(stream: &TcpStream, alloc: Global, count: usize) -> io::Result<Vec<u8>> 
             Ok(0) => return Ok(heard),
             Ok(got) => heard.extend_from_slice(&buf[..got.min(most)])?,
             Err(_) => return Ok(heard),
+        }
+    }
+    Ok(heard)
+}
+
+// the bytes up to the next empty line
+fn hear_head(stream: &TcpStream, alloc: Global) -> io::Result<Vec<u8>> {
+    let mut heard = Vec::new(alloc);
+    for _ in 0..1_000 {
+        let next = hear(stream, alloc, 1)?;
+        heard.extend_from_slice(next.as_slice())?;
+        if next.is_empty() || heard.as_slice().ends_with(b"\r\n\r\n") {
+            return Ok(heard);
         }
     }
     Ok(heard)
@@ -128,41 +142,61 @@ struct Served {
     door_faults: u64,
 }
 
-// serves so many runs of requests of the door
-fn serve_runs<R: Threads + Wait + Sync, W: Wait + Clock + Clone + Send + Drop>(
+const NOTHING: Served = Served {
+    requests: 0,
+    read_faults: 0,
+    write_faults: 0,
+    door_faults: 0,
+};
+
+impl Served {
+    fn sum(&self) -> u64 {
+        self.requests
+            .saturating_add(self.read_faults)
+            .saturating_add(self.write_faults)
+    }
+}
+
+// serves runs of requests of the door until there were so many requests and faults together
+fn serve_until<R: Threads + Wait + Sync, W: Wait + Clock + Clone + Send + Drop>(
     rt: &R,
     alloc: Global,
     door: &mut TcpDoor<W>,
-    runs: u64,
+    most: u64,
     answer: &[u8],
 ) -> Served {
-    let mut served = Served {
-        requests: 0,
-        read_faults: 0,
-        write_faults: 0,
-        door_faults: 0,
-    };
-    for _ in 0..runs {
-        match door.accept(rt, alloc) {
-            Accepted::One {
-                ip: _,
-                mut source,
-                mut sink,
-            } => {
-                if let Ok(count) = serve_run(alloc, &mut source, &mut sink, answer) {
-                    served.requests = served.requests.saturating_add(count);
-                }
-                served.read_faults = served.read_faults.saturating_add(source.faults());
-                served.write_faults = served.write_faults.saturating_add(sink.faults());
-                door.close(source, sink);
-            }
-            Accepted::Closed => {}
-            Accepted::Failed => {}
-            Accepted::Memory => {}
+    let mut served = NOTHING;
+    for _ in 0..10_000 {
+        if served.sum() >= most {
+            break;
         }
+        serve_one(rt, alloc, door, answer, &mut served);
     }
     served.door_faults = door.faults();
     served
+}
+
+// serves one run of requests
+fn serve_one<R: Threads + Wait + Sync, W: Wait + Clock + Clone + Send + Drop>(
+    rt: &R,
+    alloc: Global,
+    door: &mut TcpDoor<W>,
+    answer: &[u8],
+    served: &mut Served,
+) {
+    match door.accept(rt, alloc) {
+        Accepted::One { ip: _, mut source, mut sink } => {
+            if let Ok(count) = serve_run(alloc, &mut source, &mut sink, answer) {
+                served.requests = served.requests.saturating_add(count);
+            }
+            served.read_faults = served.read_faults.saturating_add(source.faults());
+            served.write_faults = served.write_faults.saturating_add(sink.faults());
+            door.close(source, sink);
+        }
+        Accepted::Closed => {}
+        Accepted::Failed => {}
+        Accepted::Memory => {}
+    }
 }
 
 // what the first client does: kept alive, pipelined, in pieces, half closed, and bytes that are no head
@@ -205,11 +239,6 @@ fn second_client<N: Net<Stream = TcpStream> + Clock>(
     addr: SocketAddr,
 ) -> io::Result<u64> {
     let mut good = 0u64;
-    let half = dial(net, addr)?;
-    say(&half, GET)?;
-    half.shutdown(Shutdown::Write)?;
-    good = good.saturating_add(u64::from(hears(&half, alloc, OK)));
-    good = good.saturating_add(u64::from(ends(&half)));
     let odd = dial(net, addr)?;
     say(&odd, b"(")?;
     good = good.saturating_add(u64::from(hears(&odd, alloc, BAD)));
@@ -220,6 +249,11 @@ fn second_client<N: Net<Stream = TcpStream> + Clock>(
     let feeds = dial(net, addr)?;
     say(&feeds, &[10u8; 70])?;
     good = good.saturating_add(u64::from(hears(&feeds, alloc, BAD)));
+    let half = dial(net, addr)?;
+    say(&half, GET)?;
+    half.shutdown(Shutdown::Write)?;
+    good = good.saturating_add(u64::from(hears(&half, alloc, OK)));
+    good = good.saturating_add(u64::from(ends(&half)));
     Ok(good)
 }
 
@@ -236,7 +270,7 @@ fn serves_clients_one_after_the_other(rt: HostRuntime) -> Result<(), Fail> {
     let door = &mut worker.door;
     let (served, good) = join(
         &rt,
-        || serve_runs(&rt, alloc, door, 4, OK),
+        || serve_until(&rt, alloc, door, 10, OK),
         || {
             let first = first_client(&rt, alloc, addr).unwrap_or(0);
             let second = second_client(&rt, alloc, addr).unwrap_or(0);
@@ -256,5 +290,368 @@ fn serves_clients_one_after_the_other(rt: HostRuntime) -> Result<(), Fail> {
     outside.give_back(worker);
     assert_eq!(rt; outside.returned(), 1);
     assert_eq!(rt; outside.faults(), 0);
+    Ok(())
+}
+
+const QUICK: Waits = Waits {
+    idle: 300,
+    head: 200,
+    floor: 200,
+    step: 1,
+    linger: 500,
+    connect: 1_000,
+    quiet: 200,
+    tick: 50,
+};
+
+// one more where it holds
+fn one_if(holds: bool) -> u64 {
+    u64::from(holds)
+}
+
+// half-sent heads take no worker, and a kept connection makes way for another
+fn shy_clients<N: Net<Stream = TcpStream> + Clock>(
+    net: &N,
+    alloc: Global,
+    addr: SocketAddr,
+) -> io::Result<u64> {
+    let mut good = 0u64;
+    let shy = dial(net, addr)?;
+    say(&shy, &GET[..5])?;
+    thread::sleep(net, Duration::from_millis(30));
+    let kept = dial(net, addr)?;
+    say(&kept, GET)?;
+    good = good.saturating_add(one_if(hears(&kept, alloc, OK)));
+    say(&shy, &GET[5..10])?;
+    thread::sleep(net, Duration::from_millis(30));
+    say(&kept, GET)?;
+    good = good.saturating_add(one_if(hears(&kept, alloc, OK)));
+    say(&shy, &GET[10..])?;
+    good = good.saturating_add(one_if(hears(&shy, alloc, OK)));
+    for _ in 0..20 {
+        say(&kept, GET)?;
+        good = good.saturating_add(one_if(hears(&kept, alloc, OK)));
+        say(&shy, GET)?;
+        good = good.saturating_add(one_if(hears(&shy, alloc, OK)));
+    }
+    say(&kept, LAST)?;
+    good = good.saturating_add(one_if(hears(&kept, alloc, OK)));
+    say(&shy, LAST)?;
+    good = good.saturating_add(one_if(hears(&shy, alloc, OK)));
+    Ok(good)
+}
+
+#[test]
+fn parks_what_may_become_a_head(rt: HostRuntime) -> Result<(), Fail> {
+    let alloc = rt.alloc();
+    let mut outside = StdOutside::new(rt.clone()?, WAITS);
+    outside.listen(&rt, alloc, b"127.0.0.1:0").ok().ok_or("listen")?;
+    let addr = outside.local_addr().ok_or("address")?;
+    let mut worker = outside.worker(&rt, alloc).ok().ok_or("worker")?;
+    let door = &mut worker.door;
+    let (served, good) = join(
+        &rt,
+        || serve_until(&rt, alloc, door, 45, OK),
+        || shy_clients(&rt, alloc, addr).unwrap_or(0),
+    );
+    assert_eq!(rt; good, 45);
+    assert_eq!(rt; served, Served { requests: 45, ..NOTHING });
+    outside.give_back(worker);
+    Ok(())
+}
+
+// a hundred connections that send nothing, or a part of a head, and then one that asks
+fn crowd<N: Net<Stream = TcpStream> + Clock>(
+    net: &N,
+    alloc: Global,
+    addr: SocketAddr,
+) -> io::Result<u64> {
+    let mut others = Vec::new(alloc);
+    for i in 0..100u32 {
+        let other = dial(net, addr)?;
+        if i % 2 == 0 {
+            say(&other, &GET[..20])?;
+        }
+        others.push(other).ok().ok_or(io::Error::from(io::ErrorKind::OutOfMemory))?;
+    }
+    let asking = dial(net, addr)?;
+    say(&asking, LAST)?;
+    Ok(one_if(hears(&asking, alloc, OK)))
+}
+
+#[test]
+fn idle_connections_take_no_worker(rt: HostRuntime) -> Result<(), Fail> {
+    let alloc = rt.alloc();
+    let mut outside = StdOutside::new(rt.clone()?, WAITS);
+    outside.listen(&rt, alloc, b"127.0.0.1:0").ok().ok_or("listen")?;
+    let addr = outside.local_addr().ok_or("address")?;
+    let mut worker = outside.worker(&rt, alloc).ok().ok_or("worker")?;
+    let door = &mut worker.door;
+    let (served, good) = join(
+        &rt,
+        || serve_until(&rt, alloc, door, 1, OK),
+        || crowd(&rt, alloc, addr).unwrap_or(0),
+    );
+    assert_eq!(rt; good, 1);
+    assert_eq!(rt; served, Served { requests: 1, ..NOTHING });
+    outside.give_back(worker);
+    Ok(())
+}
+
+// connections that wait too long, while another asks all the time, and then while none does
+fn late_clients<N: Net<Stream = TcpStream> + Clock>(
+    net: &N,
+    alloc: Global,
+    addr: SocketAddr,
+) -> io::Result<u64> {
+    let mut good = 0u64;
+    let idle = dial(net, addr)?;
+    let half = dial(net, addr)?;
+    say(&half, &GET[..20])?;
+    let busy = dial(net, addr)?;
+    for _ in 0..200 {
+        say(&busy, GET)?;
+        good = good.saturating_add(one_if(hears(&busy, alloc, OK)));
+        thread::sleep(net, Duration::from_millis(3));
+    }
+    idle.set_nonblocking(true)?;
+    half.set_nonblocking(true)?;
+    good = good.saturating_add(one_if(ends(&idle)));
+    good = good.saturating_add(one_if(ends(&half)));
+    good = good.saturating_add(one_if(ends(&busy)));
+    let idle = dial(net, addr)?;
+    let half = dial(net, addr)?;
+    say(&half, &GET[..20])?;
+    good = good.saturating_add(one_if(ends(&idle)));
+    good = good.saturating_add(one_if(ends(&half)));
+    let last = dial(net, addr)?;
+    say(&last, LAST)?;
+    good = good.saturating_add(one_if(hears(&last, alloc, OK)));
+    Ok(good)
+}
+
+#[test]
+fn late_connections_are_closed(rt: HostRuntime) -> Result<(), Fail> {
+    let alloc = rt.alloc();
+    let mut outside = StdOutside::new(rt.clone()?, QUICK);
+    outside.listen(&rt, alloc, b"127.0.0.1:0").ok().ok_or("listen")?;
+    let addr = outside.local_addr().ok_or("address")?;
+    let mut worker = outside.worker(&rt, alloc).ok().ok_or("worker")?;
+    let door = &mut worker.door;
+    let (served, good) = join(
+        &rt,
+        || serve_until(&rt, alloc, door, 201, OK),
+        || late_clients(&rt, alloc, addr).unwrap_or(0),
+    );
+    assert_eq!(rt; good, 206);
+    assert_eq!(rt; served, Served { requests: 201, ..NOTHING });
+    outside.give_back(worker);
+    Ok(())
+}
+
+// a client that sends a body slowly, one whose body is too large, one that does not read, and one that does
+fn slow_clients<N: Net<Stream = TcpStream> + Clock>(
+    net: &N,
+    alloc: Global,
+    addr: SocketAddr,
+    answer: &[u8],
+) -> io::Result<u64> {
+    let mut good = 0u64;
+    let slow = dial(net, addr)?;
+    say(&slow, b"POST / HTTP/1.1\r\nContent-Length: 100000\r\n\r\n")?;
+    for _ in 0..100 {
+        if say(&slow, b"a").is_err() {
+            good = good.saturating_add(1);
+            break;
+        }
+        thread::sleep(net, Duration::from_millis(10));
+    }
+    let large = dial(net, addr)?;
+    say(&large, b"POST / HTTP/1.1\r\nContent-Length: 1048577\r\n\r\n")?;
+    for _ in 0..60 {
+        say(&large, &[97u8; 1000])?;
+        thread::sleep(net, Duration::from_millis(1));
+    }
+    good = good.saturating_add(one_if(hears(&large, alloc, LARGE)));
+    good = good.saturating_add(one_if(ends(&large)));
+    drop(large);
+    let deaf = dial(net, addr)?;
+    say(&deaf, GET)?;
+    thread::sleep(net, Duration::from_millis(1_000));
+    let heard = hear(&deaf, alloc, answer.len())?;
+    good = good.saturating_add(one_if(heard.len() < answer.len()));
+    let fast = dial(net, addr)?;
+    say(&fast, LAST)?;
+    good = good.saturating_add(one_if(hears(&fast, alloc, answer)));
+    Ok(good)
+}
+
+#[test]
+fn slow_clients_are_given_up(rt: HostRuntime) -> Result<(), Fail> {
+    let alloc = rt.alloc();
+    let mut outside = StdOutside::new(rt.clone()?, QUICK);
+    outside.listen(&rt, alloc, b"127.0.0.1:0").ok().ok_or("listen")?;
+    let addr = outside.local_addr().ok_or("address")?;
+    let mut worker = outside.worker(&rt, alloc).ok().ok_or("worker")?;
+    let door = &mut worker.door;
+    let mut answer = Vec::new(alloc);
+    answer.resize(16_000_000, 98u8)?;
+    let answer = answer.as_slice();
+    let (served, good) = join(
+        &rt,
+        || serve_until(&rt, alloc, door, 4, answer),
+        || slow_clients(&rt, alloc, addr, answer).unwrap_or(0),
+    );
+    assert_eq!(rt; good, 5);
+    assert_eq!(rt; served, Served { requests: 2, read_faults: 1, write_faults: 1, door_faults: 0 });
+    outside.give_back(worker);
+    Ok(())
+}
+
+// the address that the door tells of a client at this one
+fn told_address<R: Threads + Wait + Sync, W: Net<Stream = TcpStream> + Wait + Clock + Clone + Send + Drop>(
+    rt: &R,
+    net: &W,
+    alloc: Global,
+    door: &mut TcpDoor<W>,
+    addr: SocketAddr,
+) -> io::Result<Option<Ip>> {
+    let client = dial(net, addr)?;
+    say(&client, LAST)?;
+    match door.accept(rt, alloc) {
+        Accepted::One { ip, source, sink } => {
+            door.close(source, sink);
+            Ok(Some(ip))
+        }
+        Accepted::Closed => Ok(None),
+        Accepted::Failed => Ok(None),
+        Accepted::Memory => Ok(None),
+    }
+}
+
+// an origin that takes one request and answers it with these pieces, one every ten milliseconds; it answers what came
+fn origin<C: Clock>(
+    clock: &C,
+    alloc: Global,
+    listener: &TcpListener,
+    pieces: &[&[u8]],
+) -> io::Result<Vec<u8>> {
+    let (stream, _) = listener.accept()?;
+    stream.set_read_timeout(Some(Duration::from_millis(2_000)))?;
+    let heard = hear_head(&stream, alloc)?;
+    for piece in pieces {
+        if say(&stream, piece).is_err() {
+            break;
+        }
+        thread::sleep(clock, Duration::from_millis(10));
+    }
+    Ok(heard)
+}
+
+const GIVEN: &[u8] = b"HTTP/1.1 200 OK\r\nContent-Type: text/plain\r\nContent-Length: 3\r\n\r\none";
+
+const TRICKLE: &[u8] = b"HTTP/1.1 200 OK\r\nContent-Length: 100\r\n\r\n";
+
+fn ask_of(alloc: Global, host: &[u8], port: u16) -> Result<Ask, AllocError> {
+    Ok(Ask {
+        endpoint: Endpoint {
+            host: HostName(Text::of(alloc, host)?),
+            port: Some(port),
+        },
+        target: Text::of(alloc, b"/a?b")?,
+    })
+}
+
+// whether the outcome is this body of plain text
+fn is_got(outcome: &Outcome, body: &[u8]) -> bool {
+    match outcome {
+        Outcome::Got(got) => got.status() == 200 && got.body().bytes() == body,
+        _ => false,
+    }
+}
+
+#[test]
+fn asks_origins(rt: HostRuntime) -> Result<(), Fail> {
+    let alloc = rt.alloc();
+    let mut gate = TcpGate::new(rt.clone()?, QUICK);
+    let listener = TcpListener::bind(&rt, "127.0.0.1:0")?;
+    let port = listener.local_addr()?.port();
+    let ask = ask_of(alloc, b"127.0.0.1", port)?;
+    let (heard, outcome) = join(
+        &rt,
+        || origin(&rt, alloc, &listener, &[GIVEN]),
+        || gate.fetch(alloc, &ask),
+    );
+    assert!(rt; is_got(&outcome, b"one"));
+    assert!(rt; heard?.as_slice().starts_with(b"GET /a?b HTTP/1.1\r\nHost: 127.0.0.1:"));
+    let named = ask_of(alloc, b"localhost", port)?;
+    let (_, outcome) = join(
+        &rt,
+        || origin(&rt, alloc, &listener, &[&GIVEN[..9], &GIVEN[9..]]).is_ok(),
+        || gate.fetch(alloc, &named),
+    );
+    assert!(rt; is_got(&outcome, b"one"));
+    assert_eq!(rt; gate.faults(), 0);
+    Ok(())
+}
+
+#[test]
+fn gives_bad_origins_up(rt: HostRuntime) -> Result<(), Fail> {
+    let alloc = rt.alloc();
+    let mut gate = TcpGate::new(rt.clone()?, QUICK);
+    let listener = TcpListener::bind(&rt, "[::1]:0")?;
+    let port = listener.local_addr()?.port();
+    let ask = ask_of(alloc, b"[::1]", port)?;
+    let (_, outcome) = join(
+        &rt,
+        || origin(&rt, alloc, &listener, &[GIVEN]).is_ok(),
+        || gate.fetch(alloc, &ask),
+    );
+    assert!(rt; is_got(&outcome, b"one"));
+    // an origin that says nothing
+    let silent = gate.fetch(alloc, &ask);
+    assert!(rt; matches!(&silent, Outcome::Failed));
+    drop(listener.accept()?);
+    assert_eq!(rt; gate.faults(), 1);
+    // an origin that gives a byte every ten milliseconds
+    let bytes = [97u8; 100];
+    let mut pieces = Vec::new(alloc);
+    pieces.push(TRICKLE).ok().ok_or("memory")?;
+    for _ in 0..100 {
+        pieces.push(&bytes[..1]).ok().ok_or("memory")?;
+    }
+    let (_, outcome) = join(
+        &rt,
+        || origin(&rt, alloc, &listener, pieces.as_slice()).is_ok(),
+        || gate.fetch(alloc, &ask),
+    );
+    assert!(rt; matches!(&outcome, Outcome::Failed));
+    assert_eq!(rt; gate.faults(), 2);
+    // nobody listens there, and nobody has this name
+    drop(listener);
+    let nobody = gate.fetch(alloc, &ask);
+    assert!(rt; matches!(&nobody, Outcome::Failed));
+    let unknown = gate.fetch(alloc, &ask_of(alloc, b"[::1", port)?);
+    assert!(rt; matches!(&unknown, Outcome::Failed));
+    assert_eq!(rt; gate.faults(), 4);
+    Ok(())
+}
+
+#[test]
+fn addresses_are_told(rt: HostRuntime) -> Result<(), Fail> {
+    let alloc = rt.alloc();
+    let mut outside = StdOutside::new(rt.clone()?, QUICK);
+    assert_eq!(rt; outside.listen(&rt, alloc, b"127.0.0.1"), Err(OutsideFault::BadAddress));
+    assert_eq!(rt; outside.listen(&rt, alloc, b"192.0.2.1:1"), Err(OutsideFault::Failed));
+    assert_eq!(rt; outside.faults(), 1);
+    outside.listen(&rt, alloc, b"[::]:0").ok().ok_or("listen")?;
+    let port = outside.local_addr().ok_or("address")?.port();
+    let mut worker = outside.worker(&rt, alloc).ok().ok_or("worker")?;
+    let six = SocketAddr::new(IpAddr::V6(Ipv6Addr::LOCALHOST), port);
+    let four = SocketAddr::new(IpAddr::V4(Ipv4Addr::LOCALHOST), port);
+    assert_eq!(rt; told_address(&rt, &rt, alloc, &mut worker.door, six)?, Some(Ip::V6(1)));
+    assert_eq!(rt; told_address(&rt, &rt, alloc, &mut worker.door, four)?, Some(Ip::V4(2_130_706_433)));
+    assert_eq!(rt; worker.door.faults(), 0);
+    outside.give_back(worker);
     Ok(())
 }

@@ -1,7 +1,8 @@
 //! What the front of the bytes of a connection is: a head, or what may still become one (RFC 9112, sections 2 to 6).
 
 ghost use Rattle.std.specs.Prelude.{◌≡◌, ◌≤◌, ◌<◌, length, IfSome};
-ghost use Rattle.sockets.specs.Ahead.{IsFrontOf};
+ghost use Rattle.http_wire.specs.declared.limits.TheConstants.{FEEDS_MAX, HEAD_MAX};
+ghost use Rattle.sockets.specs.Ahead.{IsFrontOf, line_feeds};
 
 use http_wire::{FEEDS_MAX, FIELDS_MAX, HEAD_MAX};
 use httparse::Status;
@@ -35,15 +36,32 @@ pub(crate) struct Behind {
 
 // what these bytes are
 pub(crate) fn front_of(bytes: &[u8]) -> Front
-    ensures { IsFrontOf (length bytes.now) result }
+    ensures { IsFrontOf bytes.now result }
 {
-    match head_end(bytes) {
-        Some(end) => Front::Whole(end),
-        None => if may_become_head(bytes) {
-            Front::Open
-        } else {
-            Front::Never
-        },
+    if let Some(end) = head_end(bytes) {
+        return Front::Whole(end);
+    }
+    if bytes.is_empty() {
+        return Front::Open;
+    }
+    if bytes.len() >= HEAD_MAX || feeds_in(bytes) >= FEEDS_MAX {
+        return Front::Never;
+    }
+    parsed_front(bytes)
+}
+
+// what these bytes are, by the grammar
+fn parsed_front(bytes: &[u8]) -> Front
+    requires some { 0 < length bytes.now }
+    requires short { length bytes.now < HEAD_MAX }
+    requires few { line_feeds bytes.now < FEEDS_MAX }
+    ensures { IsFrontOf bytes.now result }
+{
+    let mut spans = [EMPTY_HEADER_SPAN; FIELDS_MAX];
+    match parse_request(bytes, &mut spans) {
+        Ok(Status::Complete(found)) => Front::Whole(found.len.max(1)),
+        Ok(Status::Partial) => Front::Open,
+        Err(_) => Front::Never,
     }
 }
 
@@ -95,27 +113,11 @@ fn is_empty_line(line: &[u8]) -> bool {
     line.is_empty() || line == [RETURN].as_slice()
 }
 
-// whether a head within the limits may begin with these bytes, which hold none whole
-fn may_become_head(bytes: &[u8]) -> bool {
-    if bytes.is_empty() {
-        return true;
-    }
-    if bytes.len() >= HEAD_MAX || has_all_feeds(bytes) {
-        return false;
-    }
-    let mut spans = [EMPTY_HEADER_SPAN; FIELDS_MAX];
-    matches!(parse_request(bytes, &mut spans), Ok(Status::Partial))
-}
-
-// whether so many line feeds stand in the bytes that no head may hold more
-fn has_all_feeds(bytes: &[u8]) -> bool {
-    let mut feeds = 0usize;
-    for byte in bytes {
-        if *byte == LINE_FEED {
-            feeds = feeds.saturating_add(1);
-        }
-    }
-    feeds >= FEEDS_MAX
+// how many line feeds stand in the bytes
+fn feeds_in(bytes: &[u8]) -> usize
+    ensures { result ≡ line_feeds bytes.now }
+{
+    bytes.iter().filter(|byte| **byte == LINE_FEED).count()
 }
 
 // what follows this head. Where the length of its body is told twice, or not in digits, or in another way, none is

@@ -1,16 +1,21 @@
 //! The outside over TCP and the clock of the machine.
 
-ghost use Rattle.std.specs.Prelude.{◌≡◌, ◌≢◌, ◌≤◌, Err, None, IfOk};
+ghost use Rattle.std.specs.Prelude.{◌≡◌, ◌≢◌, ◌≤◌, length, Err, None, IfOk};
+ghost use Rattle.doors.specs.Outside.{HasFaultCause};
+ghost use Rattle.sockets.specs.declared.place_file.TheConstants.{PLACES_MAX};
 ghost use Rattle.edge_base.specs.Causes.{next_count};
 
 use crate::door::TcpDoor;
 use crate::gate::TcpGate;
 use crate::hub::Hub;
+use crate::place_file::read_file;
 use crate::waits::Waits;
 use doors::{Outside, OutsideFault, Worker, read_address};
 use edge_base::WallClock;
+use listing::Text;
 use location_acl::Ip;
 use std::alloc::{AllocError, Global};
+use std::rt::Files;
 use std::net::{IpAddr, Ipv4Addr, Ipv6Addr, Net, SocketAddr, TcpListener, TcpStream};
 use std::sync::{Arc, Wait};
 use std::thread::Threads;
@@ -98,6 +103,26 @@ impl<N: Net<Listener = TcpListener, Stream = TcpStream> + Wait + Clock + Clone +
     }
 }
 
+impl<N: Net<Listener = TcpListener, Stream = TcpStream> + Wait + Clock + Files + Clone + Drop> StdOutside<N> {
+    /// The text of the place file of this name, which has at most 67,108,864 bytes.
+    ///
+    /// # Errors
+    /// A fault, which is counted, where the file cannot be read or has more bytes. Want of memory.
+    pub fn places(&mut self, alloc: Global, path: &[u8]) -> Result<Text, OutsideFault>
+        ensures most { IfOk result (λ text. length text ≤ PLACES_MAX) }
+        ensures later { self.old.faults ≤ self.new.faults }
+        ensures cause { HasFaultCause self.old.faults self.new.faults result }
+        ensures address { result ≢ Err OutsideFault.BadAddress }
+        ensures returned { self.new.returned ≡ self.old.returned }
+    {
+        match read_file(&self.net, alloc, path) {
+            Ok(text) => Ok(text),
+            Err(OutsideFault::Failed) => Err(self.fault()),
+            Err(other) => Err(other),
+        }
+    }
+}
+
 // the address and the port
 fn address(ip: Ip, port: u16) -> SocketAddr {
     match ip {
@@ -111,7 +136,7 @@ impl<
 > Outside for StdOutside<N> {
     ghost use Rattle.std.specs.Prelude.{◌+◌, ◌-◌, ◌^◌, ◌<◌, ◌↔◌, [], ◌∷◌, min, IfOk, is_ok};
     ghost use Rattle.edge_base.specs.Causes.{Rose};
-    ghost use Rattle.doors.specs.Outside.{HasFaultCause, IsNew, tells_of};
+    ghost use Rattle.doors.specs.Outside.{IsNew, tells_of};
 
     type D = TcpDoor<N>;
 

@@ -1,13 +1,14 @@
 //! Each adapter over real sockets of this machine, with both ends in one process.
 
 use crate::{StdOutside, TcpDoor, TcpGate, WAITS, Waits};
-use cdni_base::{Endpoint, HostName, Text};
+use cdni_base::{Endpoint, Text};
 use doors::{Accepted, Door, Outside, OutsideFault};
 use edge_base::{Sink, Source, write_counted};
 use location_acl::Ip;
 use http_wire::{BodyRead, Found, Head, HeadRead, Inbox, body_of, read_head};
 use std::alloc::{AllocError, Global};
 use std::io::{Read, Write};
+use std::{env, fs};
 use std::net::{IpAddr, Ipv4Addr, Ipv6Addr, Net, Shutdown, SocketAddr, TcpListener, TcpStream};
 use std::sync::Wait;
 use std::sync::atomic::{AtomicBool, Ordering};
@@ -360,7 +361,8 @@ fn parks_what_may_become_a_head(rt: HostRuntime) -> Result<(), Fail> {
     Ok(())
 }
 
-// a hundred connections that send nothing, or a part of a head, and then one that asks
+// A hundred connections that send nothing, or a part of a head, and then one that asks. Where the process may not open
+// so many, half of those that it opened are closed before that.
 fn crowd<N: Net<Stream = TcpStream> + Clock>(
     net: &N,
     alloc: Global,
@@ -368,11 +370,17 @@ fn crowd<N: Net<Stream = TcpStream> + Clock>(
 ) -> io::Result<u64> {
     let mut others = Vec::new(alloc);
     for i in 0..100u32 {
-        let other = dial(net, addr)?;
+        let Ok(other) = dial(net, addr) else {
+            thread::sleep(net, Duration::from_millis(100));
+            others.truncate(others.len() / 2);
+            break;
+        };
         if i % 2 == 0 {
             say(&other, &GET[..20])?;
         }
-        others.push(other).ok().ok_or(io::Error::from(io::ErrorKind::OutOfMemory))?;
+        if others.push(other).is_err() {
+            break;
+        }
     }
     let asking = dial(net, addr)?;
     say(&asking, LAST)?;
@@ -529,18 +537,21 @@ fn told_address<R: Threads + Wait + Sync, W: Net<Stream = TcpStream> + Wait + Cl
     }
 }
 
-// an origin that takes one request and answers it with these pieces, one every ten milliseconds; it answers what came
+// an origin that takes one request, sends the first bytes of its answer and then the others, one every ten milliseconds;
+// it answers what came
 fn origin<C: Clock>(
     clock: &C,
     alloc: Global,
     listener: &TcpListener,
-    pieces: &[&[u8]],
+    first: &[u8],
+    others: &[u8],
 ) -> io::Result<Vec<u8>> {
     let (stream, _) = listener.accept()?;
     stream.set_read_timeout(Some(Duration::from_millis(2_000)))?;
     let heard = hear_head(&stream, alloc)?;
-    for piece in pieces {
-        if say(&stream, piece).is_err() {
+    say(&stream, first)?;
+    for byte in others {
+        if say(&stream, &[*byte]).is_err() {
             break;
         }
         thread::sleep(clock, Duration::from_millis(10));
@@ -552,12 +563,11 @@ const GIVEN: &[u8] = b"HTTP/1.1 200 OK\r\nContent-Type: text/plain\r\nContent-Le
 
 const TRICKLE: &[u8] = b"HTTP/1.1 200 OK\r\nContent-Length: 100\r\n\r\n";
 
-fn ask_of(alloc: Global, host: &[u8], port: u16) -> Result<Ask, AllocError> {
+// an ask of the host, at the port
+fn ask_of(alloc: Global, host: &str, port: u16) -> Result<Ask, Fail> {
+    let text = format!(in alloc; "{host}:{port}")?;
     Ok(Ask {
-        endpoint: Endpoint {
-            host: HostName(Text::of(alloc, host)?),
-            port: Some(port),
-        },
+        endpoint: Endpoint::read(alloc, text.as_bytes()).ok().ok_or("endpoint")?,
         target: Text::of(alloc, b"/a?b")?,
     })
 }
@@ -576,18 +586,18 @@ fn asks_origins(rt: HostRuntime) -> Result<(), Fail> {
     let mut gate = TcpGate::new(rt.clone()?, QUICK);
     let listener = TcpListener::bind(&rt, "127.0.0.1:0")?;
     let port = listener.local_addr()?.port();
-    let ask = ask_of(alloc, b"127.0.0.1", port)?;
+    let ask = ask_of(alloc, "127.0.0.1", port)?;
     let (heard, outcome) = join(
         &rt,
-        || origin(&rt, alloc, &listener, &[GIVEN]),
+        || origin(&rt, alloc, &listener, GIVEN, b""),
         || gate.fetch(alloc, &ask),
     );
     assert!(rt; is_got(&outcome, b"one"));
     assert!(rt; heard?.as_slice().starts_with(b"GET /a?b HTTP/1.1\r\nHost: 127.0.0.1:"));
-    let named = ask_of(alloc, b"localhost", port)?;
+    let named = ask_of(alloc, "localhost", port)?;
     let (_, outcome) = join(
         &rt,
-        || origin(&rt, alloc, &listener, &[&GIVEN[..9], &GIVEN[9..]]).is_ok(),
+        || origin(&rt, alloc, &listener, &GIVEN[..GIVEN.len() - 3], b"one").is_ok(),
         || gate.fetch(alloc, &named),
     );
     assert!(rt; is_got(&outcome, b"one"));
@@ -601,10 +611,10 @@ fn gives_bad_origins_up(rt: HostRuntime) -> Result<(), Fail> {
     let mut gate = TcpGate::new(rt.clone()?, QUICK);
     let listener = TcpListener::bind(&rt, "[::1]:0")?;
     let port = listener.local_addr()?.port();
-    let ask = ask_of(alloc, b"[::1]", port)?;
+    let ask = ask_of(alloc, "[::1]", port)?;
     let (_, outcome) = join(
         &rt,
-        || origin(&rt, alloc, &listener, &[GIVEN]).is_ok(),
+        || origin(&rt, alloc, &listener, GIVEN, b"").is_ok(),
         || gate.fetch(alloc, &ask),
     );
     assert!(rt; is_got(&outcome, b"one"));
@@ -614,26 +624,18 @@ fn gives_bad_origins_up(rt: HostRuntime) -> Result<(), Fail> {
     drop(listener.accept()?);
     assert_eq!(rt; gate.faults(), 1);
     // an origin that gives a byte every ten milliseconds
-    let bytes = [97u8; 100];
-    let mut pieces = Vec::new(alloc);
-    pieces.push(TRICKLE).ok().ok_or("memory")?;
-    for _ in 0..100 {
-        pieces.push(&bytes[..1]).ok().ok_or("memory")?;
-    }
     let (_, outcome) = join(
         &rt,
-        || origin(&rt, alloc, &listener, pieces.as_slice()).is_ok(),
+        || origin(&rt, alloc, &listener, TRICKLE, &[97u8; 100]).is_ok(),
         || gate.fetch(alloc, &ask),
     );
     assert!(rt; matches!(&outcome, Outcome::Failed));
     assert_eq!(rt; gate.faults(), 2);
-    // nobody listens there, and nobody has this name
+    // nobody listens there
     drop(listener);
     let nobody = gate.fetch(alloc, &ask);
     assert!(rt; matches!(&nobody, Outcome::Failed));
-    let unknown = gate.fetch(alloc, &ask_of(alloc, b"[::1", port)?);
-    assert!(rt; matches!(&unknown, Outcome::Failed));
-    assert_eq!(rt; gate.faults(), 4);
+    assert_eq!(rt; gate.faults(), 3);
     Ok(())
 }
 
@@ -652,6 +654,37 @@ fn addresses_are_told(rt: HostRuntime) -> Result<(), Fail> {
     assert_eq!(rt; told_address(&rt, &rt, alloc, &mut worker.door, six)?, Some(Ip::V6(1)));
     assert_eq!(rt; told_address(&rt, &rt, alloc, &mut worker.door, four)?, Some(Ip::V4(2_130_706_433)));
     assert_eq!(rt; worker.door.faults(), 0);
+    outside.give_back(worker);
+    Ok(())
+}
+
+#[test]
+fn reads_place_files(rt: HostRuntime) -> Result<(), Fail> {
+    let alloc = rt.alloc();
+    let mut outside = StdOutside::new(rt.clone()?, WAITS);
+    let mut name = env::temp_dir(&rt)?;
+    name.push("rattle_sockets_place_file")?;
+    let text = name.as_path().to_str().ok_or("name")?;
+    fs::write(&rt, text, "192.0.2.0/24 64496 us\n")?;
+    let read = outside.places(alloc, text.as_bytes()).ok().ok_or("read")?;
+    assert!(rt; read.bytes() == b"192.0.2.0/24 64496 us\n".as_slice());
+    assert_eq!(rt; outside.faults(), 0);
+    fs::remove_file(&rt, text)?;
+    let gone = outside.places(alloc, text.as_bytes());
+    assert!(rt; matches!(&gone, Err(OutsideFault::Failed)));
+    assert_eq!(rt; outside.faults(), 1);
+    Ok(())
+}
+
+#[test]
+fn gives_the_time_of_day(rt: HostRuntime) -> Result<(), Fail> {
+    let alloc = rt.alloc();
+    let mut outside = StdOutside::new(rt.clone()?, WAITS);
+    outside.listen(&rt, alloc, b"127.0.0.1:0").ok().ok_or("listen")?;
+    let mut worker = outside.worker(&rt, alloc).ok().ok_or("worker")?;
+    let moment = edge_base::Clock::now(&mut worker.clock);
+    // later than the beginning of 2020
+    assert!(rt; moment > 1_577_836_800_000);
     outside.give_back(worker);
     Ok(())
 }

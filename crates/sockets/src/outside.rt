@@ -15,8 +15,8 @@ use edge_base::WallClock;
 use listing::Text;
 use location_acl::Ip;
 use std::alloc::{AllocError, Global};
-use std::rt::Files;
 use std::net::{IpAddr, Ipv4Addr, Ipv6Addr, Net, SocketAddr, TcpListener, TcpStream};
+use std::rt::Files;
 use std::sync::{Arc, Wait};
 use std::thread::Threads;
 use std::time::Clock;
@@ -103,7 +103,9 @@ impl<N: Net<Listener = TcpListener, Stream = TcpStream> + Wait + Clock + Clone +
     }
 }
 
-impl<N: Net<Listener = TcpListener, Stream = TcpStream> + Wait + Clock + Files + Clone + Drop> StdOutside<N> {
+impl<
+    N: Net<Listener = TcpListener, Stream = TcpStream> + Wait + Clock + Files + Clone + Drop,
+> StdOutside<N> {
     /// The text of the place file of this name, which has at most 67,108,864 bytes.
     ///
     /// # Errors

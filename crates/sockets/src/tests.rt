@@ -4,18 +4,17 @@ use crate::{StdOutside, TcpDoor, TcpGate, WAITS, Waits};
 use cdni_base::{Endpoint, Text};
 use doors::{Accepted, Door, Outside, OutsideFault};
 use edge_base::{Sink, Source, write_counted};
-use location_acl::Ip;
 use http_wire::{BodyRead, Found, Head, HeadRead, Inbox, body_of, read_head};
+use location_acl::Ip;
 use std::alloc::{AllocError, Global};
 use std::io::{Read, Write};
-use std::{env, fs};
 use std::net::{IpAddr, Ipv4Addr, Ipv6Addr, Net, Shutdown, SocketAddr, TcpListener, TcpStream};
 use std::sync::Wait;
-use std::sync::atomic::{AtomicBool, Ordering};
+use std::sync::atomic::{AtomicU64, Ordering};
 use std::test::Fail;
 use std::thread::{Threads, join};
 use std::time::{Clock, Duration};
-use std::{io, thread};
+use std::{env, fs, io, thread};
 use upstream_gate::{Ask, Gate, Outcome};
 
 const OK: &[u8] = b"HTTP/1.1 200 OK\r\nContent-Length: 2\r\n\r\nok";
@@ -186,7 +185,11 @@ fn serve_one<R: Threads + Wait + Sync, W: Wait + Clock + Clone + Send + Drop>(
     served: &mut Served,
 ) {
     match door.accept(rt, alloc) {
-        Accepted::One { ip: _, mut source, mut sink } => {
+        Accepted::One {
+            ip: _,
+            mut source,
+            mut sink,
+        } => {
             if let Ok(count) = serve_run(alloc, &mut source, &mut sink, answer) {
                 served.requests = served.requests.saturating_add(count);
             }
@@ -346,7 +349,10 @@ fn shy_clients<N: Net<Stream = TcpStream> + Clock>(
 fn parks_what_may_become_a_head(rt: HostRuntime) -> Result<(), Fail> {
     let alloc = rt.alloc();
     let mut outside = StdOutside::new(rt.clone()?, WAITS);
-    outside.listen(&rt, alloc, b"127.0.0.1:0").ok().ok_or("listen")?;
+    outside
+        .listen(&rt, alloc, b"127.0.0.1:0")
+        .ok()
+        .ok_or("listen")?;
     let addr = outside.local_addr().ok_or("address")?;
     let mut worker = outside.worker(&rt, alloc).ok().ok_or("worker")?;
     let door = &mut worker.door;
@@ -356,7 +362,13 @@ fn parks_what_may_become_a_head(rt: HostRuntime) -> Result<(), Fail> {
         || shy_clients(&rt, alloc, addr).unwrap_or(0),
     );
     assert_eq!(rt; good, 45);
-    assert_eq!(rt; served, Served { requests: 45, ..NOTHING });
+    assert_eq!(rt;
+        served,
+        Served {
+            requests: 45,
+            ..NOTHING
+        }
+    );
     outside.give_back(worker);
     Ok(())
 }
@@ -391,7 +403,10 @@ fn crowd<N: Net<Stream = TcpStream> + Clock>(
 fn idle_connections_take_no_worker(rt: HostRuntime) -> Result<(), Fail> {
     let alloc = rt.alloc();
     let mut outside = StdOutside::new(rt.clone()?, WAITS);
-    outside.listen(&rt, alloc, b"127.0.0.1:0").ok().ok_or("listen")?;
+    outside
+        .listen(&rt, alloc, b"127.0.0.1:0")
+        .ok()
+        .ok_or("listen")?;
     let addr = outside.local_addr().ok_or("address")?;
     let mut worker = outside.worker(&rt, alloc).ok().ok_or("worker")?;
     let door = &mut worker.door;
@@ -401,7 +416,13 @@ fn idle_connections_take_no_worker(rt: HostRuntime) -> Result<(), Fail> {
         || crowd(&rt, alloc, addr).unwrap_or(0),
     );
     assert_eq!(rt; good, 1);
-    assert_eq!(rt; served, Served { requests: 1, ..NOTHING });
+    assert_eq!(rt;
+        served,
+        Served {
+            requests: 1,
+            ..NOTHING
+        }
+    );
     outside.give_back(worker);
     Ok(())
 }
@@ -442,7 +463,10 @@ fn late_clients<N: Net<Stream = TcpStream> + Clock>(
 fn late_connections_are_closed(rt: HostRuntime) -> Result<(), Fail> {
     let alloc = rt.alloc();
     let mut outside = StdOutside::new(rt.clone()?, QUICK);
-    outside.listen(&rt, alloc, b"127.0.0.1:0").ok().ok_or("listen")?;
+    outside
+        .listen(&rt, alloc, b"127.0.0.1:0")
+        .ok()
+        .ok_or("listen")?;
     let addr = outside.local_addr().ok_or("address")?;
     let mut worker = outside.worker(&rt, alloc).ok().ok_or("worker")?;
     let door = &mut worker.door;
@@ -452,7 +476,13 @@ fn late_connections_are_closed(rt: HostRuntime) -> Result<(), Fail> {
         || late_clients(&rt, alloc, addr).unwrap_or(0),
     );
     assert_eq!(rt; good, 206);
-    assert_eq!(rt; served, Served { requests: 201, ..NOTHING });
+    assert_eq!(rt;
+        served,
+        Served {
+            requests: 201,
+            ..NOTHING
+        }
+    );
     outside.give_back(worker);
     Ok(())
 }
@@ -475,7 +505,10 @@ fn slow_clients<N: Net<Stream = TcpStream> + Clock>(
         thread::sleep(net, Duration::from_millis(10));
     }
     let large = dial(net, addr)?;
-    say(&large, b"POST / HTTP/1.1\r\nContent-Length: 1048577\r\n\r\n")?;
+    say(
+        &large,
+        b"POST / HTTP/1.1\r\nContent-Length: 1048577\r\n\r\n",
+    )?;
     for _ in 0..60 {
         say(&large, &[97u8; 1000])?;
         thread::sleep(net, Duration::from_millis(1));
@@ -498,7 +531,10 @@ fn slow_clients<N: Net<Stream = TcpStream> + Clock>(
 fn slow_clients_are_given_up(rt: HostRuntime) -> Result<(), Fail> {
     let alloc = rt.alloc();
     let mut outside = StdOutside::new(rt.clone()?, QUICK);
-    outside.listen(&rt, alloc, b"127.0.0.1:0").ok().ok_or("listen")?;
+    outside
+        .listen(&rt, alloc, b"127.0.0.1:0")
+        .ok()
+        .ok_or("listen")?;
     let addr = outside.local_addr().ok_or("address")?;
     let mut worker = outside.worker(&rt, alloc).ok().ok_or("worker")?;
     let door = &mut worker.door;
@@ -511,13 +547,24 @@ fn slow_clients_are_given_up(rt: HostRuntime) -> Result<(), Fail> {
         || slow_clients(&rt, alloc, addr, answer).unwrap_or(0),
     );
     assert_eq!(rt; good, 5);
-    assert_eq!(rt; served, Served { requests: 2, read_faults: 1, write_faults: 1, door_faults: 0 });
+    assert_eq!(rt;
+        served,
+        Served {
+            requests: 2,
+            read_faults: 1,
+            write_faults: 1,
+            door_faults: 0
+        }
+    );
     outside.give_back(worker);
     Ok(())
 }
 
 // the address that the door tells of a client at this one
-fn told_address<R: Threads + Wait + Sync, W: Net<Stream = TcpStream> + Wait + Clock + Clone + Send + Drop>(
+fn told_address<
+    R: Threads + Wait + Sync,
+    W: Net<Stream = TcpStream> + Wait + Clock + Clone + Send + Drop,
+>(
     rt: &R,
     net: &W,
     alloc: Global,
@@ -567,7 +614,9 @@ const TRICKLE: &[u8] = b"HTTP/1.1 200 OK\r\nContent-Length: 100\r\n\r\n";
 fn ask_of(alloc: Global, host: &str, port: u16) -> Result<Ask, Fail> {
     let text = format!(in alloc; "{host}:{port}")?;
     Ok(Ask {
-        endpoint: Endpoint::read(alloc, text.as_bytes()).ok().ok_or("endpoint")?,
+        endpoint: Endpoint::read(alloc, text.as_bytes())
+            .ok()
+            .ok_or("endpoint")?,
         target: Text::of(alloc, b"/a?b")?,
     })
 }
@@ -593,7 +642,11 @@ fn asks_origins(rt: HostRuntime) -> Result<(), Fail> {
         || gate.fetch(alloc, &ask),
     );
     assert!(rt; is_got(&outcome, b"one"));
-    assert!(rt; heard?.as_slice().starts_with(b"GET /a?b HTTP/1.1\r\nHost: 127.0.0.1:"));
+    assert!(rt;
+        heard?
+            .as_slice()
+            .starts_with(b"GET /a?b HTTP/1.1\r\nHost: 127.0.0.1:")
+    );
     let named = ask_of(alloc, "localhost", port)?;
     let (_, outcome) = join(
         &rt,
@@ -643,16 +696,28 @@ fn gives_bad_origins_up(rt: HostRuntime) -> Result<(), Fail> {
 fn addresses_are_told(rt: HostRuntime) -> Result<(), Fail> {
     let alloc = rt.alloc();
     let mut outside = StdOutside::new(rt.clone()?, QUICK);
-    assert_eq!(rt; outside.listen(&rt, alloc, b"127.0.0.1"), Err(OutsideFault::BadAddress));
-    assert_eq!(rt; outside.listen(&rt, alloc, b"192.0.2.1:1"), Err(OutsideFault::Failed));
+    assert_eq!(rt;
+        outside.listen(&rt, alloc, b"127.0.0.1"),
+        Err(OutsideFault::BadAddress)
+    );
+    assert_eq!(rt;
+        outside.listen(&rt, alloc, b"192.0.2.1:1"),
+        Err(OutsideFault::Failed)
+    );
     assert_eq!(rt; outside.faults(), 1);
     outside.listen(&rt, alloc, b"[::]:0").ok().ok_or("listen")?;
     let port = outside.local_addr().ok_or("address")?.port();
     let mut worker = outside.worker(&rt, alloc).ok().ok_or("worker")?;
     let six = SocketAddr::new(IpAddr::V6(Ipv6Addr::LOCALHOST), port);
     let four = SocketAddr::new(IpAddr::V4(Ipv4Addr::LOCALHOST), port);
-    assert_eq!(rt; told_address(&rt, &rt, alloc, &mut worker.door, six)?, Some(Ip::V6(1)));
-    assert_eq!(rt; told_address(&rt, &rt, alloc, &mut worker.door, four)?, Some(Ip::V4(2_130_706_433)));
+    assert_eq!(rt;
+        told_address(&rt, &rt, alloc, &mut worker.door, six)?,
+        Some(Ip::V6(1))
+    );
+    assert_eq!(rt;
+        told_address(&rt, &rt, alloc, &mut worker.door, four)?,
+        Some(Ip::V4(2_130_706_433))
+    );
     assert_eq!(rt; worker.door.faults(), 0);
     outside.give_back(worker);
     Ok(())
@@ -680,11 +745,128 @@ fn reads_place_files(rt: HostRuntime) -> Result<(), Fail> {
 fn gives_the_time_of_day(rt: HostRuntime) -> Result<(), Fail> {
     let alloc = rt.alloc();
     let mut outside = StdOutside::new(rt.clone()?, WAITS);
-    outside.listen(&rt, alloc, b"127.0.0.1:0").ok().ok_or("listen")?;
+    outside
+        .listen(&rt, alloc, b"127.0.0.1:0")
+        .ok()
+        .ok_or("listen")?;
     let mut worker = outside.worker(&rt, alloc).ok().ok_or("worker")?;
     let moment = edge_base::Clock::now(&mut worker.clock);
     // later than the beginning of 2020
     assert!(rt; moment > 1_577_836_800_000);
     outside.give_back(worker);
+    Ok(())
+}
+
+// one worker with what it served
+#[derive(Drop)]
+struct Job<W: Wait + Clock + Clone + Drop> {
+    door: TcpDoor<W>,
+    served: Served,
+}
+
+// serves so many runs of requests of one door, and then says so
+fn serve_some<R: Threads + Wait + Sync, W: Wait + Clock + Clone + Send + Drop>(
+    rt: &R,
+    alloc: Global,
+    job: &mut Job<W>,
+    runs: u64,
+    ended: &AtomicU64,
+) {
+    for _ in 0..runs {
+        serve_one(rt, alloc, &mut job.door, OK, &mut job.served);
+    }
+    ended.fetch_add(1, Ordering::SeqCst);
+}
+
+// serves with all workers at once
+fn serve_all<R: Threads + Wait + Sync, W: Wait + Clock + Clone + Send + Drop>(
+    rt: &R,
+    alloc: Global,
+    jobs: &mut [Job<W>],
+    ended: &AtomicU64,
+) {
+    thread::for_each_mut(
+        rt,
+        jobs,
+        4,
+        &|_, job: &mut Job<W>| serve_some(rt, alloc, job, 25, ended),
+    );
+}
+
+// asks over kept connections and over new ones, in turn, until all workers have ended; how many were answered
+fn many_clients<N: Net<Stream = TcpStream> + Clock>(
+    net: &N,
+    alloc: Global,
+    addr: SocketAddr,
+    ended: &AtomicU64,
+) -> io::Result<u64> {
+    let mut good = 0u64;
+    let kept = [
+        dial(net, addr)?,
+        dial(net, addr)?,
+        dial(net, addr)?,
+        dial(net, addr)?,
+        dial(net, addr)?,
+        dial(net, addr)?,
+    ];
+    for _ in 0..2_000 {
+        if ended.load(Ordering::SeqCst) >= WORKERS {
+            return Ok(good);
+        }
+        for stream in &kept {
+            if say(stream, GET).is_ok() {
+                good = good.saturating_add(one_if(hears(stream, alloc, OK)));
+            }
+        }
+        let new = dial(net, addr)?;
+        say(&new, LAST)?;
+        good = good.saturating_add(one_if(hears(&new, alloc, OK)));
+    }
+    Ok(good)
+}
+
+const WORKERS: u64 = 4;
+
+#[test]
+fn many_workers_share_the_connections(rt: HostRuntime) -> Result<(), Fail> {
+    let alloc = rt.alloc();
+    let mut outside = StdOutside::new(rt.clone()?, WAITS);
+    outside
+        .listen(&rt, alloc, b"127.0.0.1:0")
+        .ok()
+        .ok_or("listen")?;
+    let addr = outside.local_addr().ok_or("address")?;
+    let mut jobs = Vec::new(alloc);
+    for _ in 0..WORKERS {
+        let worker = outside.worker(&rt, alloc).ok().ok_or("worker")?;
+        jobs.push(Job {
+            door: worker.door,
+            served: NOTHING,
+        })
+        .ok()
+        .ok_or("memory")?;
+    }
+    let ended = AtomicU64::new(0);
+    let all = jobs.as_mut_slice();
+    let (_, good) = join(
+        &rt,
+        || serve_all(&rt, alloc, all, &ended),
+        || many_clients(&rt, alloc, addr, &ended).unwrap_or(0),
+    );
+    let mut served = NOTHING;
+    for job in &jobs {
+        served.requests = served.requests.saturating_add(job.served.requests);
+        served.read_faults = served.read_faults.saturating_add(job.served.read_faults);
+        served.write_faults = served.write_faults.saturating_add(job.served.write_faults);
+        served.door_faults = served.door_faults.saturating_add(job.door.faults());
+    }
+    assert!(rt; good >= 100);
+    assert_eq!(rt;
+        served,
+        Served {
+            requests: good,
+            ..NOTHING
+        }
+    );
     Ok(())
 }

@@ -1,4 +1,2 @@
-pub mod Ahead
-pub mod Hub
 pub mod Pace
 pub mod Ready

@@ -1,28 +1,22 @@
-//! Real sockets.
+//! TCP connections: reads and writes that wait no longer than they may, what is read ahead of one, its sink, and the
+//! gate to the origins.
 #![tactic(auto)]
 
-mod ahead;
-mod door;
 mod gate;
-mod hub;
 mod link;
 mod origin_source;
-mod outside;
 mod pace;
-mod parked;
-mod place_file;
 mod ready;
 mod room;
 mod sink;
-mod source;
 #[cfg(test)]
 mod tests;
 mod waits;
 
-pub use door::TcpDoor;
 pub use gate::TcpGate;
-pub use outside::StdOutside;
-pub use place_file::PLACES_MAX;
+pub use link::Link;
+pub use pace::Pace;
+pub use ready::{Moved, Woken, clock_of, read_within, wait_for_one, wait_for_two, write_within};
+pub use room::Room;
 pub use sink::SocketSink;
-pub use source::SocketSource;
 pub use waits::{WAITS, Waits};

@@ -3,28 +3,28 @@
 use std::net::TcpStream;
 use std::sync::atomic::{AtomicU64, Ordering};
 
-// a connection, and how many messages its source began to give
+/// A connection, and how many messages its source began to give.
 #[derive(Drop)]
-pub(crate) struct Link {
+pub struct Link {
     pub stream: TcpStream,
     pub messages: AtomicU64,
 }
 
 impl Link {
-    pub(crate) fn new(stream: TcpStream) -> Link {
+    pub fn new(stream: TcpStream) -> Link {
         Link {
             stream,
             messages: AtomicU64::new(0),
         }
     }
 
-    // the source begins to give the next message
-    pub(crate) fn begin(&self) {
+    /// The source begins to give the next message.
+    pub fn begin(&self) {
         self.messages.fetch_add(1, Ordering::SeqCst);
     }
 
-    // the number of the message that the source gives
-    pub(crate) fn message(&self) -> u64 {
+    /// The number of the message that the source gives.
+    pub fn message(&self) -> u64 {
         self.messages.load(Ordering::SeqCst)
     }
 }

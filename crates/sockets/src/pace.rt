@@ -8,9 +8,9 @@ use crate::waits::Waits;
 /// The bytes that buy a slow peer one step more.
 const STEP_BYTES: u64 = 65_536;
 
-// the time that the bytes of one message have taken, and how much they may take, in milliseconds
+/// The time that the bytes of one message have taken, and how much they may take, in milliseconds.
 #[derive(Clone, Copy, Debug)]
-pub(crate) struct Pace {
+pub struct Pace {
     // what all waits together may take, before a byte moved
     pub floor: u64,
     // how much more for each 65,536 bytes
@@ -28,8 +28,8 @@ pub(crate) struct Pace {
 }
 
 impl Pace {
-    // of a client, which is to send or to take from the beginning
-    pub(crate) fn of_client(waits: &Waits) -> Pace {
+    /// Of a client, which is to send or to take from the beginning.
+    pub fn of_client(waits: &Waits) -> Pace {
         Pace {
             floor: waits.floor,
             step: waits.step,
@@ -41,8 +41,8 @@ impl Pace {
         }
     }
 
-    // of an origin, which may take its time before it answers
-    pub(crate) fn of_origin(waits: &Waits) -> Pace {
+    /// Of an origin, which may take its time before it answers.
+    pub fn of_origin(waits: &Waits) -> Pace {
         Pace {
             floor: waits.floor,
             step: waits.step,
@@ -54,15 +54,15 @@ impl Pace {
         }
     }
 
-    // begins with the next message
-    pub(crate) fn begin(&mut self) {
+    /// Begins with the next message.
+    pub fn begin(&mut self) {
         self.spent = 0;
         self.silent = 0;
         self.moved = 0;
     }
 
-    // how long the next wait may be; 0 where the peer was too slow
-    pub(crate) fn left(&self) -> u64
+    /// How long the next wait may be; 0 where the peer was too slow.
+    pub fn left(&self) -> u64
         ensures { result ≡ left_of self.now }
     {
         let more = (self.moved / STEP_BYTES).saturating_mul(self.step);
@@ -70,16 +70,16 @@ impl Pace {
         whole.min(self.quiet.saturating_sub(self.silent))
     }
 
-    // notes that so many bytes moved
-    pub(crate) fn note_move(&mut self, count: usize)
+    /// Notes that so many bytes moved.
+    pub fn note_move(&mut self, count: usize)
         ensures { self.new ≡ after_move count self.old }
     {
         self.moved = self.moved.saturating_add(count as u64);
         self.silent = 0;
     }
 
-    // notes a wait of so long
-    pub(crate) fn note_wait(&mut self, took: u64)
+    /// Notes a wait of so long.
+    pub fn note_wait(&mut self, took: u64)
         ensures { self.new ≡ after_wait took self.old }
     {
         self.silent = self.silent.saturating_add(took);

@@ -16,32 +16,32 @@ const MOST_WAITS: u64 = u64::MAX;
 /// What a wait in vain counts at least, in milliseconds, where it may be so long.
 const LEAST_WAIT: u64 = 1_000;
 
-// what a call on a socket that does not wait gave
+/// What a call on a socket that does not wait gave.
 #[derive(Clone, Copy, Debug, PartialEq, Eq)]
-pub(crate) enum Moved {
-    // so many bytes, one or more
+pub enum Moved {
+    /// So many bytes, one or more.
     Some(usize),
-    // the peer sends no more
+    /// The peer sends no more.
     End,
-    // nothing yet
+    /// Nothing yet.
     Later,
-    // the connection failed
+    /// The connection failed, or the peer was too slow.
     Failed,
 }
 
-// what waiting gave
+/// What waiting gave.
 #[derive(Clone, Copy, Debug, PartialEq, Eq)]
-pub(crate) enum Woken {
-    // the first descriptor is ready
+pub enum Woken {
+    /// The first descriptor is ready.
     First,
-    // the second one is, and the first is not
+    /// The second one is, and the first is not.
     Second,
-    // neither, within the time
+    /// Neither, within the time.
     Neither,
 }
 
-// milliseconds since a beginning of the machine's own; 0 where its clock cannot be read
-pub(crate) fn clock_of<C: Clock>(rt: &C) -> u64 {
+/// Milliseconds since a beginning of the machine's own; 0 where its clock cannot be read.
+pub fn clock_of<C: Clock>(rt: &C) -> u64 {
     match rt.monotonic() {
         Ok(time) => u64::try_from(time.as_millis()).unwrap_or(u64::MAX),
         Err(_) => 0,
@@ -102,8 +102,8 @@ fn timeout_of(time: u64) -> i32 {
     i32::try_from(time).unwrap_or(i32::MAX)
 }
 
-// waits for so many milliseconds at most until this descriptor is ready
-pub(crate) fn wait_for_one(fd: RawFd, events: i16, time: u64) -> Woken {
+/// Waits for so many milliseconds at most until this descriptor is ready.
+pub fn wait_for_one(fd: RawFd, events: i16, time: u64) -> Woken {
     let mut asked = [pollfd {
         fd,
         events,
@@ -116,8 +116,8 @@ pub(crate) fn wait_for_one(fd: RawFd, events: i16, time: u64) -> Woken {
     }
 }
 
-// waits for so many milliseconds at most until one of the two has something to read
-pub(crate) fn wait_for_two(first: RawFd, second: RawFd, time: u64) -> Woken {
+/// Waits for so many milliseconds at most until one of the two has something to read.
+pub fn wait_for_two(first: RawFd, second: RawFd, time: u64) -> Woken {
     let mut asked = [
         pollfd {
             fd: first,
@@ -159,13 +159,8 @@ fn keeps_pace<C: Clock>(rt: &C, fd: RawFd, events: i16, pace: &mut Pace) -> bool
     true
 }
 
-// reads within the pace: never `Later`
-pub(crate) fn read_within<C: Clock>(
-    rt: &C,
-    stream: &TcpStream,
-    buf: &mut [u8],
-    pace: &mut Pace,
-) -> Moved
+/// Reads within the pace: never `Later`.
+pub fn read_within<C: Clock>(rt: &C, stream: &TcpStream, buf: &mut [u8], pace: &mut Pace) -> Moved
     requires { 0 < length buf.old }
     ensures { IsMoved (length buf.new) result }
 {
@@ -187,13 +182,8 @@ pub(crate) fn read_within<C: Clock>(
     Moved::Failed
 }
 
-// writes within the pace: never `Later`
-pub(crate) fn write_within<C: Clock>(
-    rt: &C,
-    stream: &TcpStream,
-    piece: &[u8],
-    pace: &mut Pace,
-) -> Moved
+/// Writes within the pace: never `Later`.
+pub fn write_within<C: Clock>(rt: &C, stream: &TcpStream, piece: &[u8], pace: &mut Pace) -> Moved
     requires { 0 < length piece.now }
     ensures { IsMoved (length piece.now) result }
 {

@@ -9,10 +9,10 @@ use std::alloc::{AllocError, Global};
 use std::marker::Model;
 use std::net::TcpStream;
 
-// bytes that were read ahead, at most 16,384, as many as a head may have. It is made once for a worker, and seen as
-// these bytes.
+/// Bytes that were read ahead, at most 16,384, as many as a head may have. It is made once for a worker, and seen as
+/// these bytes.
 #[derive(Drop)]
-pub(crate) struct Room {
+pub struct Room {
     bytes: Vec<u8>,
     from: usize,
     to: usize,
@@ -31,8 +31,8 @@ impl Model for Room {
 }
 
 impl Room {
-    // an empty one
-    pub(crate) fn new(alloc: Global) -> Result<Room, AllocError>
+    /// An empty one.
+    pub fn new(alloc: Global) -> Result<Room, AllocError>
         ensures { IfOk result (λ room. room ≡ []) }
     {
         let mut bytes = Vec::new(alloc);
@@ -44,31 +44,31 @@ impl Room {
         })
     }
 
-    // the bytes
-    pub(crate) fn bytes(&self) -> &[u8]
+    /// The bytes.
+    pub fn bytes(&self) -> &[u8]
         ensures bytes { result.now ≡ self.now }
     {
         &self.bytes[self.from..self.to]
     }
 
-    // takes all bytes out
-    pub(crate) fn clear(&mut self)
+    /// Takes all bytes out.
+    pub fn clear(&mut self)
         ensures { self.new ≡ [] }
     {
         self.from = 0;
         self.to = 0;
     }
 
-    // has these bytes alone, as far as there is room
-    pub(crate) fn hold(&mut self, bytes: &[u8]) {
+    /// Has these bytes alone, as far as there is room.
+    pub fn hold(&mut self, bytes: &[u8]) {
         let count = bytes.len().min(HEAD_MAX);
         self.bytes[..count].copy_from_slice(&bytes[..count]);
         self.from = 0;
         self.to = count;
     }
 
-    // moves bytes to the front of `buf`
-    pub(crate) fn give(&mut self, buf: &mut [u8]) -> usize
+    /// Moves bytes to the front of `buf`.
+    pub fn give(&mut self, buf: &mut [u8]) -> usize
         ensures count { result ≡ min (length buf.old) (length self.old) }
         ensures within { result ≤ length buf.new }
     {
@@ -78,8 +78,8 @@ impl Room {
         count
     }
 
-    // reads once behind the bytes that are there; without waiting, or as long as the socket's own limit says
-    pub(crate) fn fill(&mut self, stream: &TcpStream, soon: bool) -> Moved {
+    /// Reads once behind the bytes that are there; without waiting, or as long as the socket's own limit says.
+    pub fn fill(&mut self, stream: &TcpStream, soon: bool) -> Moved {
         self.settle();
         if self.to == self.bytes.len() {
             return Moved::Failed;

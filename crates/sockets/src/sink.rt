@@ -26,8 +26,8 @@ pub struct SocketSink<C: Clock + Drop> {
 }
 
 impl<C: Clock + Drop> SocketSink<C> {
-    // a sink that took nothing yet
-    pub(crate) fn new(link: Arc<Link, Global>, clock: C, pace: Pace) -> SocketSink<C>
+    /// A sink that took nothing yet.
+    pub fn new(link: Arc<Link, Global>, clock: C, pace: Pace) -> SocketSink<C>
         ensures { result.faults ≡ 0 }
     {
         SocketSink {
@@ -46,8 +46,8 @@ impl<C: Clock + Drop> SocketSink<C> {
         self.faults
     }
 
-    // its share of the connection
-    pub(crate) fn into_link(self) -> Arc<Link, Global> {
+    /// Its share of the connection.
+    pub fn into_link(self) -> Arc<Link, Global> {
         self.link
     }
 

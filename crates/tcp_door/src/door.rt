@@ -3,15 +3,11 @@
 ghost use Rattle.std.specs.Prelude.{◌≡◌, IfOk, Some};
 
 use crate::hub::{Hub, Look, Taken};
-use crate::link::Link;
-use crate::pace::Pace;
 use crate::parked::Parked;
-use crate::ready::{Moved, Woken, clock_of, wait_for_one};
-use crate::room::Room;
-use crate::sink::SocketSink;
 use crate::source::{Left, Run, SocketSource};
 use doors::{Accepted, Door};
 use libc::net as c;
+use sockets::{Link, Moved, Pace, Room, SocketSink, Woken, clock_of, wait_for_one};
 use std::alloc::{AllocError, Global};
 use std::net::{Shutdown, TcpStream};
 use std::os::fd::AsRawFd;

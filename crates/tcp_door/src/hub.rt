@@ -1,17 +1,15 @@
 //! The one place where all workers wait for connections.
 
 ghost use Rattle.std.specs.Prelude.{◌≡◌};
-ghost use Rattle.sockets.specs.Hub.{refusal_of};
+ghost use Rattle.tcp_door.specs.Hub.{refusal_of};
 
 use crate::ahead::{Front, front_of};
 use crate::parked::{Lot, Parked};
-use crate::ready::{Moved, Woken, clock_of, wait_for_one};
-use crate::room::Room;
-use crate::waits::Waits;
 use libc::net as c;
 use location_acl::Ip;
 use mio::Poll;
 use os::EpollEvent;
+use sockets::{Moved, Room, Waits, Woken, clock_of, wait_for_one};
 use std::alloc::Global;
 use std::net::{IpAddr, Net, SocketAddr, TcpListener, TcpStream};
 use std::os::fd::{AsRawFd, OwnedFd, RawFd};

@@ -1,5 +1,5 @@
 use Rattle.std.proofs.Common.{◌≡◌}
-use Rattle.sockets.proofs.source.SocketSource.next_message.Given as goal
+use Rattle.tcp_door.proofs.source.SocketSource.wait_for_more.Given as goal
 
 abbrev pub invariant-loop : goal.invariant-loop
 invariant-loop g l = l.self.faults ≡ l.fn.self.faults

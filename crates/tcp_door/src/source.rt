@@ -1,17 +1,15 @@
 //! The source of a client's connection.
 
-ghost use Rattle.std.specs.Prelude.{◌≡◌, ◌<◌, ◌≤◌, length, Some};
+ghost use Rattle.std.specs.Prelude.{◌≡◌, ◌-◌, ◌<◌, ◌≤◌, length, option_map, IfSome, Some};
+ghost use Rattle.tcp_door.specs.Source.{IsPiece};
 ghost use Rattle.sockets.specs.Ready.{IsMoved};
 
 use crate::ahead::{Front, front_of, what_follows};
 use crate::hub::{Hub, Taken};
-use crate::link::Link;
-use crate::pace::Pace;
-use crate::ready::{Moved, Woken, clock_of, read_within, wait_for_one, wait_for_two};
-use crate::room::Room;
 use edge_base::{Source, Took};
 use libc::net as c;
 use location_acl::Ip;
+use sockets::{Link, Moved, Pace, Room, Woken, clock_of, read_within, wait_for_one, wait_for_two};
 use std::alloc::Global;
 use std::os::fd::AsRawFd;
 use std::sync::{Arc, Wait};
@@ -296,13 +294,14 @@ impl<W: Wait + Clock + Drop> SocketSource<W> {
     fn give(&mut self, buf: &mut [u8]) -> Moved
         requires { 0 < length buf.old }
         ensures moved { IsMoved (length buf.new) result }
+        ensures message { IsPiece self.old.body self.new.body result }
         ensures faults { self.new.faults ≡ self.old.faults }
     {
         let most = self.most_of(buf.len());
         if !self.room.bytes().is_empty() {
             let count = self.room.give(&mut buf[..most]);
             self.note(count);
-            return some_of(count, most);
+            return Moved::Some(count);
         }
         let got = read_within(
             &self.rt,
@@ -321,6 +320,7 @@ impl<W: Wait + Clock + Drop> SocketSource<W> {
         requires { 0 < room }
         ensures within { result ≤ room }
         ensures some { 0 < result }
+        ensures message { IfSome self.now.body (λ left. 0 < left → result ≤ left) }
     {
         match self.body {
             Some(left) => if left < room as u64 {
@@ -334,6 +334,7 @@ impl<W: Wait + Clock + Drop> SocketSource<W> {
 
     // so many bytes of the message were given
     fn note(&mut self, count: usize)
+        ensures body { self.new.body ≡ option_map (λ left. left - count) self.old.body }
         ensures faults { self.new.faults ≡ self.old.faults }
     {
         match self.body {
@@ -359,18 +360,6 @@ impl<W: Wait + Clock + Drop> SocketSource<W> {
             }
         }
         self.give(buf)
-    }
-}
-
-// so many bytes, of as many at most
-fn some_of(count: usize, most: usize) -> Moved
-    requires { 0 < most }
-    ensures { IsMoved most result }
-{
-    if count == 0 {
-        Moved::Failed
-    } else {
-        Moved::Some(count.min(most))
     }
 }
 

@@ -1,7 +1,7 @@
 use Rattle.std.proofs.Common.{◌≤◌, length}
 use Rattle.std.specs.Io.KnownBytes.{Consumes}
-use Rattle.sockets.specs.declared.place_file.TheConstants.{PLACES_MAX}
-use Rattle.sockets.proofs.place_file.read_text.Given as goal
+use Rattle.tcp_door.specs.declared.place_file.TheConstants.{PLACES_MAX}
+use Rattle.tcp_door.proofs.place_file.read_text.Given as goal
 
 abbrev pub invariant-pieces : goal.invariant-pieces
 invariant-pieces g l = record {

@@ -2,7 +2,7 @@
 
 ghost use Rattle.std.specs.Prelude.{◌≡◌, ◌≢◌, ◌≤◌, length, Err, IfOk};
 ghost use Rattle.std.specs.Io.KnownBytes.{Consumes, IsAtEnd};
-ghost use Rattle.sockets.specs.declared.place_file.TheConstants.{PLACES_MAX};
+ghost use Rattle.tcp_door.specs.declared.place_file.TheConstants.{PLACES_MAX};
 
 use doors::OutsideFault;
 use listing::Text;

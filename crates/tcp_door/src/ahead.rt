@@ -2,7 +2,7 @@
 
 ghost use Rattle.std.specs.Prelude.{◌≡◌, ◌≤◌, ◌<◌, length, IfSome};
 ghost use Rattle.http_wire.specs.declared.limits.TheConstants.{FEEDS_MAX, HEAD_MAX};
-ghost use Rattle.sockets.specs.Ahead.{IsFrontOf, line_feeds};
+ghost use Rattle.tcp_door.specs.Ahead.{IsFrontOf, line_feeds};
 
 use http_wire::{FEEDS_MAX, FIELDS_MAX, HEAD_MAX};
 use httparse::Status;

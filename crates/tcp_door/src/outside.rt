@@ -2,18 +2,17 @@
 
 ghost use Rattle.std.specs.Prelude.{◌≡◌, ◌≢◌, ◌≤◌, length, Err, None, IfOk};
 ghost use Rattle.doors.specs.Outside.{HasFaultCause};
-ghost use Rattle.sockets.specs.declared.place_file.TheConstants.{PLACES_MAX};
+ghost use Rattle.tcp_door.specs.declared.place_file.TheConstants.{PLACES_MAX};
 ghost use Rattle.edge_base.specs.Causes.{next_count};
 
 use crate::door::TcpDoor;
-use crate::gate::TcpGate;
 use crate::hub::Hub;
 use crate::place_file::read_file;
-use crate::waits::Waits;
 use doors::{Outside, OutsideFault, Worker, read_address};
 use edge_base::WallClock;
 use listing::Text;
 use location_acl::Ip;
+use sockets::{TcpGate, Waits};
 use std::alloc::{AllocError, Global};
 use std::net::{IpAddr, Ipv4Addr, Ipv6Addr, Net, SocketAddr, TcpListener, TcpStream};
 use std::rt::Files;

@@ -1,10 +1,11 @@
 //! Connections that no worker has.
 
-ghost use Rattle.std.specs.Prelude.{◌≡◌, ◌+◌, ◌≤◌, IfSome, IfNone};
+ghost use Rattle.std.specs.Prelude.{◌≡◌, ◌+◌, IfSome, IfNone};
+ghost use Rattle.tcp_door.specs.Parked.{is_late};
 
-use crate::waits::Waits;
 use indexmap::IndexMap;
 use location_acl::Ip;
+use sockets::Waits;
 use std::alloc::Global;
 use std::net::TcpStream;
 
@@ -23,14 +24,14 @@ pub(crate) struct Parked {
     pub known: bool,
 }
 
-impl Parked {
-    // whether it waited too long
-    pub(crate) fn is_late(&self, now: u64, waits: &Waits) -> bool {
-        if self.got.is_empty() {
-            now.saturating_sub(self.since) >= waits.idle
-        } else {
-            now.saturating_sub(self.born) >= waits.head
-        }
+// whether it waited too long
+fn is_late(parked: &Parked, now: u64, waits: &Waits) -> bool
+    ensures { result ≡ is_late now waits.now parked.now }
+{
+    if parked.got.is_empty() {
+        now.saturating_sub(parked.since) >= waits.idle
+    } else {
+        now.saturating_sub(parked.born) >= waits.head
     }
 }
 
@@ -82,8 +83,7 @@ impl Lot {
     pub(crate) fn expire(&mut self, now: u64, waits: &Waits)
         ensures { self.new.next ≡ self.old.next }
     {
-        self.parked
-            .retain(|_: &u64, parked: &mut Parked| !parked.is_late(now, waits));
+        self.parked.retain(|_: &u64, parked: &mut Parked| !is_late(parked, now, waits));
     }
 
     // closes those that waited for this many milliseconds

@@ -16,7 +16,7 @@ use std::sync::{Arc, Wait};
 use std::time::Clock;
 
 /// How many requests of one connection are served in a row at most while another has something for a worker.
-const BURST: u64 = 32;
+const BURST: u64 = 8;
 
 /// How long a worker that keeps a connection waits before it looks whether other workers are still free, in milliseconds.
 const LOOK_STEP: u64 = 25;

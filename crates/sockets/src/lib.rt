@@ -1,0 +1,22 @@
+//! TCP connections: reads and writes that wait no longer than they may, what is read ahead of one, its sink, and the
+//! gate to the origins.
+#![tactic(auto)]
+
+mod gate;
+mod link;
+mod origin_source;
+mod pace;
+mod ready;
+mod room;
+mod sink;
+#[cfg(test)]
+mod tests;
+mod waits;
+
+pub use gate::TcpGate;
+pub use link::Link;
+pub use pace::Pace;
+pub use ready::{Moved, Woken, clock_of, read_within, wait_for_one, wait_for_two, write_within};
+pub use room::Room;
+pub use sink::SocketSink;
+pub use waits::{WAITS, Waits};

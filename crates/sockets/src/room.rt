@@ -1,0 +1,107 @@
+//! What was read ahead of a connection.
+
+ghost use Rattle.std.specs.Prelude.{◌≡◌, ◌-◌, ◌<◌, ◌≤◌, [], length, min, take, drop, IfOk, OnOk};
+ghost use Rattle.sockets.specs.Ready.{IsMoved};
+
+use crate::ready::{Moved, read_now, read_soon};
+use http_wire::HEAD_MAX;
+use std::alloc::{AllocError, Global};
+use std::marker::Model;
+use std::net::TcpStream;
+
+/// Bytes that were read ahead, at most 16,384, as many as a head may have. It is made once for a worker, and seen as
+/// these bytes.
+#[derive(Drop)]
+pub struct Room {
+    bytes: Vec<u8>,
+    from: usize,
+    to: usize,
+}
+
+impl Model for Room {
+    ghost use Rattle.std.specs.Prelude.{ℕ, ◌≡◌, ◌≤◌, List, take, drop};
+    ghost use Rattle.std.specs.Vec.{vec_len};
+    ghost use Rattle.http_wire.specs.declared.limits.TheConstants.{HEAD_MAX};
+
+    ghost Value = { List ℕ };
+
+    ghost view = { λ room. drop room.from (take room.to room.bytes.items) };
+
+    ghost invariant = { λ room. (room.from ≤ room.to) × (room.to ≤ vec_len room.bytes) × (vec_len room.bytes ≡ HEAD_MAX) };
+}
+
+impl Room {
+    /// An empty one.
+    pub fn new(alloc: Global) -> Result<Room, AllocError>
+        ensures { IfOk result (λ room. room ≡ []) }
+    {
+        let mut bytes = Vec::new(alloc);
+        bytes.resize(HEAD_MAX, 0)?;
+        Ok(Room {
+            bytes,
+            from: 0,
+            to: 0,
+        })
+    }
+
+    /// The bytes.
+    pub fn bytes(&self) -> &[u8]
+        ensures bytes { result.now ≡ self.now }
+    {
+        &self.bytes[self.from..self.to]
+    }
+
+    /// Takes all bytes out.
+    pub fn clear(&mut self)
+        ensures { self.new ≡ [] }
+    {
+        self.from = 0;
+        self.to = 0;
+    }
+
+    /// Has these bytes alone, as far as there is room.
+    pub fn hold(&mut self, bytes: &[u8]) {
+        let count = bytes.len().min(HEAD_MAX);
+        self.bytes[..count].copy_from_slice(&bytes[..count]);
+        self.from = 0;
+        self.to = count;
+    }
+
+    /// Moves bytes to the front of `buf`.
+    pub fn give(&mut self, buf: &mut [u8]) -> usize
+        ensures count { result ≡ min (length buf.old) (length self.old) }
+        ensures within { result ≤ length buf.new }
+    {
+        let count = buf.len().min(self.to - self.from);
+        buf[..count].copy_from_slice(&self.bytes[self.from..self.from + count]);
+        self.from += count;
+        count
+    }
+
+    /// Reads once behind the bytes that are there; without waiting, or as long as the socket's own limit says.
+    pub fn fill(&mut self, stream: &TcpStream, soon: bool) -> Moved {
+        self.settle();
+        if self.to == self.bytes.len() {
+            return Moved::Failed;
+        }
+        let to = self.to;
+        let got = if soon {
+            read_soon(stream, &mut self.bytes[to..])
+        } else {
+            read_now(stream, &mut self.bytes[to..])
+        };
+        if let Moved::Some(count) = got {
+            self.to = to + count;
+        }
+        got
+    }
+
+    // moves the bytes to the front
+    fn settle(&mut self) {
+        if self.from > 0 {
+            self.bytes.copy_within(self.from..self.to, 0);
+            self.to -= self.from;
+            self.from = 0;
+        }
+    }
+}

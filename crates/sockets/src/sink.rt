@@ -1,0 +1,86 @@
+//! The sink of a connection.
+
+ghost use Rattle.std.specs.Prelude.{◌≡◌, ◌<◌, length};
+ghost use Rattle.sockets.specs.Ready.{IsMoved};
+
+use crate::link::Link;
+use crate::pace::Pace;
+use crate::ready::{Moved, write_within};
+use edge_base::{Put, Sink};
+use std::alloc::Global;
+use std::sync::Arc;
+use std::time::Clock;
+
+/// Writes to a TCP connection. It does not tell what it holds.
+///
+/// A write takes what the system has room for, and waits where that is nothing. The waits of one request's answer may
+/// take ten seconds in all, and one second more for each 65,536 bytes that were taken; past that the client is too
+/// slow, and the write fails. A failed write counts a fault.
+#[derive(Drop)]
+pub struct SocketSink<C: Clock + Drop> {
+    link: Arc<Link, Global>,
+    clock: C,
+    pace: Pace,
+    message: u64,
+    faults: u64,
+}
+
+impl<C: Clock + Drop> SocketSink<C> {
+    /// A sink that took nothing yet.
+    pub fn new(link: Arc<Link, Global>, clock: C, pace: Pace) -> SocketSink<C>
+        ensures { result.faults ≡ 0 }
+    {
+        SocketSink {
+            link,
+            clock,
+            pace,
+            message: 0,
+            faults: 0,
+        }
+    }
+
+    /// How many of its calls failed, up to 2^64 - 1.
+    pub fn faults(&self) -> u64
+        ensures { result ≡ self.now.faults }
+    {
+        self.faults
+    }
+
+    /// Its share of the connection.
+    pub fn into_link(self) -> Arc<Link, Global> {
+        self.link
+    }
+
+    // writes, and begins with a pace anew where the source has begun with another message
+    fn put(&mut self, piece: &[u8]) -> Moved
+        requires { 0 < length piece.now }
+        ensures moved { IsMoved (length piece.now) result }
+        ensures faults { self.new.faults ≡ self.old.faults }
+    {
+        let message = self.link.message();
+        if message != self.message {
+            self.message = message;
+            self.pace.begin();
+        }
+        write_within(&self.clock, &self.link.stream, piece, &mut self.pace)
+    }
+}
+
+impl<C: Clock + Drop> Sink for SocketSink<C> {
+    ghost use Rattle.std.specs.Prelude.{◌<◌, length, None};
+    ghost use Rattle.edge_base.specs.Sink.{IsPutCount, Writes, HasWriteCause};
+
+    ghost held = { λ _. None };
+
+    ghost faults = { λ s. s.faults };
+
+    fn write(&mut self, piece: &[u8]) -> Put {
+        match self.put(piece) {
+            Moved::Some(count) => Put::Some(count),
+            _ => {
+                self.faults = self.faults.saturating_add(1);
+                Put::Failed
+            }
+        }
+    }
+}

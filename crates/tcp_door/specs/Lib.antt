@@ -1,0 +1,4 @@
+pub mod Ahead
+pub mod Hub
+pub mod Parked
+pub mod Source

@@ -1,0 +1,211 @@
+//! The door over TCP.
+
+ghost use Rattle.std.specs.Prelude.{◌≡◌, IfOk, Some};
+
+use crate::hub::{Hub, Look, Taken};
+use crate::parked::Parked;
+use crate::source::{Left, Run, SocketSource};
+use doors::{Accepted, Door};
+use libc::net as c;
+use sockets::{Link, Moved, Pace, Room, SocketSink, Woken, clock_of, wait_for_one};
+use std::alloc::{AllocError, Global};
+use std::net::{Shutdown, TcpStream};
+use std::os::fd::AsRawFd;
+use std::sync::{Arc, Wait};
+use std::thread::Threads;
+use std::time::Clock;
+
+/// How many bytes are read at most of a client that has not sent all, before its connection is closed.
+const LINGER_BYTES: usize = 65_536;
+
+/// How often a wait is begun again at most.
+const MOST_WAITS: u64 = u64::MAX;
+
+/// Gives the connections of a TCP listener. It tells nothing of them.
+///
+/// All doors of a listener share the connections that no worker has. Such a connection is given to a worker where a
+/// whole head came, or bytes that never become one: that is so where no head begins so (RFC 9112), and for 66 line
+/// feeds, for 16,384 bytes, and for bytes behind which the client sends no more. Before that it has no worker. A client
+/// that sends no more, and no byte before, is closed. So is a connection without a byte of a next request after 60
+/// seconds, and one with a part of a head ten seconds after the first byte of that head.
+///
+/// A worker keeps its connection between two requests, unless another connection has something for a worker and no
+/// worker is free. Then the connection goes back to the others and may be given again, to any worker. So a connection
+/// of a door is one run of requests: of one client at a time that is one TCP connection, and under load it may be a
+/// part of one, whose requests count anew towards the most of a connection.
+///
+/// A client over IPv6 whose address holds an IPv4 address is given with that. Errors of accepting are passed over, but
+/// for those that say that the listener is none; where no descriptor is left, connections that wait for a second are
+/// closed. A connection that ends before its client has sent all is closed for writing, and up to 65,536 bytes of it
+/// are read for a second at most, so that its last answer arrives.
+#[derive(Drop)]
+pub struct TcpDoor<W: Wait + Clock + Clone + Drop> {
+    hub: Arc<Hub, Global>,
+    rt: W,
+    alloc: Global,
+    room: Option<Room>,
+    faults: u64,
+}
+
+impl<W: Wait + Clock + Clone + Drop> TcpDoor<W> {
+    // a door that gave no connection yet
+    pub(crate) fn new(hub: Arc<Hub, Global>, rt: W, alloc: Global) -> TcpDoor<W>
+        ensures { result.faults ≡ 0 }
+    {
+        TcpDoor {
+            hub,
+            rt,
+            alloc,
+            room: None,
+            faults: 0,
+        }
+    }
+
+    /// How many of its calls failed, up to 2^64 - 1.
+    pub fn faults(&self) -> u64
+        ensures { result ≡ self.now.faults }
+    {
+        self.faults
+    }
+
+    // waits for the next connection; none where the listener is broken
+    fn wait<R: Wait>(&self, rt: &R, alloc: Global, room: &mut Room) -> Option<Taken> {
+        for _ in rt.forever() {
+            match self.hub.look(&self.rt, alloc, room) {
+                Look::Given(taken) => return Some(taken),
+                Look::Fault => return None,
+                Look::Nothing => {}
+            }
+        }
+        unreachable!()
+    }
+
+    // both ends of a connection
+    fn ends(
+        &self,
+        alloc: Global,
+        taken: Taken,
+        room: Room,
+    ) -> Result<(SocketSource<W>, SocketSink<W>), AllocError>
+        ensures { IfOk result (λ ends. (ends.0.faults ≡ 0) × (ends.1.faults ≡ 0)) }
+    {
+        let Taken { stream, ip, known } = taken;
+        let link = Arc::new(alloc, Link::new(stream))?;
+        let other = Arc::try_clone(&link)?;
+        let hub = Arc::try_clone(&self.hub)?;
+        let pace = Pace::of_client(&self.hub.waits);
+        let sink = SocketSink::new(other, self.rt.clone()?, pace);
+        let source = SocketSource::new(hub, link, self.rt.clone()?, ip, known, room, pace);
+        Ok((source, sink))
+    }
+
+    // ends a connection whose run is over, or parks it
+    fn shut(&self, source: SocketSource<W>, sink: SocketSink<W>) -> Room {
+        let broken = sink.faults() > 0;
+        let Left {
+            link,
+            ip,
+            mut room,
+            since,
+            born,
+            known,
+            run,
+            unread,
+        } = source.into_left();
+        drop(sink);
+        if let Some(
+            Link {
+                stream,
+                messages: _,
+            },
+        ) = Arc::into_inner(link)
+        {
+            match run {
+                Run::Yielded if !broken => {
+                    let parked = Parked {
+                        stream,
+                        ip,
+                        got: Vec::new(self.alloc),
+                        since,
+                        born,
+                        known,
+                    };
+                    self.hub.park_again(&self.rt, self.alloc, parked, &room);
+                }
+                Run::Going if !broken && unread => {
+                    linger(&self.rt, &stream, &mut room, self.hub.waits.linger);
+                }
+                _ => {}
+            }
+        }
+        room.clear();
+        room
+    }
+}
+
+// sends the end, and reads for so many milliseconds what the client still sends
+fn linger<C: Clock>(rt: &C, stream: &TcpStream, room: &mut Room, time: u64) {
+    let _ = stream.shutdown(Shutdown::Write);
+    let start = clock_of(rt);
+    let mut count = 0usize;
+    for _ in 0..MOST_WAITS {
+        let left = time.saturating_sub(clock_of(rt).saturating_sub(start));
+        if left == 0 || count >= LINGER_BYTES {
+            return;
+        }
+        if wait_for_one(stream.as_raw_fd(), c::POLLIN, left) == Woken::Neither {
+            return;
+        }
+        room.clear();
+        match room.fill(stream, false) {
+            Moved::Some(more) => count = count.saturating_add(more),
+            Moved::Later => {}
+            _ => return,
+        }
+    }
+}
+
+impl<W: Wait + Clock + Clone + Send + Drop> Door for TcpDoor<W> {
+    ghost use Rattle.std.specs.Prelude.{◌≡◌, ◌≤◌, None};
+    ghost use Rattle.edge_base.specs.Causes.{Rose};
+    ghost use Rattle.doors.specs.Door.{HaveNoFaults, IsFailed};
+
+    type S = SocketSource<W>;
+
+    type K = SocketSink<W>;
+
+    ghost book = { λ _. None };
+
+    ghost faults = { λ d. d.faults };
+
+    fn accept<R: Threads + Wait + Sync>(
+        &mut self,
+        rt: &R,
+        alloc: Global,
+    ) -> Accepted<SocketSource<W>, SocketSink<W>> {
+        let mut room = match self.room.take() {
+            Some(room) => room,
+            None => match Room::new(alloc) {
+                Ok(room) => room,
+                Err(_) => return Accepted::Memory,
+            },
+        };
+        self.hub.begin_idle();
+        let taken = self.wait(rt, alloc, &mut room);
+        self.hub.end_idle();
+        let Some(taken) = taken else {
+            self.faults = self.faults.saturating_add(1);
+            return Accepted::Failed;
+        };
+        let ip = taken.ip;
+        match self.ends(alloc, taken, room) {
+            Ok((source, sink)) => Accepted::One { ip, source, sink },
+            Err(_) => Accepted::Memory,
+        }
+    }
+
+    fn close(&mut self, source: SocketSource<W>, sink: SocketSink<W>) {
+        let room = self.shut(source, sink);
+        self.room = Some(room);
+    }
+}

@@ -1,0 +1,384 @@
+//! The source of a client's connection.
+
+ghost use Rattle.std.specs.Prelude.{◌≡◌, ◌-◌, ◌<◌, ◌≤◌, length, option_map, IfSome, Some};
+ghost use Rattle.tcp_door.specs.Source.{IsPiece};
+ghost use Rattle.sockets.specs.Ready.{IsMoved};
+
+use crate::ahead::{Front, front_of, what_follows};
+use crate::hub::{Hub, Taken};
+use edge_base::{Source, Took};
+use libc::net as c;
+use location_acl::Ip;
+use sockets::{Link, Moved, Pace, Room, Woken, clock_of, read_within, wait_for_one, wait_for_two};
+use std::alloc::Global;
+use std::os::fd::AsRawFd;
+use std::sync::{Arc, Wait};
+use std::time::Clock;
+
+/// How many requests of one connection are served in a row at most while another has something for a worker.
+const BURST: u64 = 8;
+
+/// How long a worker that keeps a connection waits before it looks whether other workers are still free, in milliseconds.
+const LOOK_STEP: u64 = 25;
+
+/// How often a wait is begun again at most.
+const MOST_WAITS: u64 = u64::MAX;
+
+// how a run of requests goes on
+#[derive(Clone, Copy, Debug, PartialEq, Eq)]
+pub(crate) enum Run {
+    // it goes on
+    Going,
+    // it was ended for another connection, between two requests; the connection is kept
+    Yielded,
+    // it is over, and so is the connection
+    Over,
+}
+
+// what is left of a connection that is closed
+#[derive(Drop)]
+pub(crate) struct Left {
+    pub link: Arc<Link, Global>,
+    pub ip: Ip,
+    // what came of its next head
+    pub room: Room,
+    pub since: u64,
+    pub born: u64,
+    pub known: bool,
+    pub run: Run,
+    // whether the client may have sent more than was read
+    pub unread: bool,
+}
+
+/// Reads the requests of a TCP connection. It does not tell what is left.
+///
+/// It gives one head at a time, and the bytes of its body behind it (RFC 9112, section 6). Between two requests it ends
+/// where another connection has something for a worker and no worker is free, or where nothing comes for 60 seconds, or
+/// where a part of a head came and the rest does not for ten seconds. The waits for the bytes of one body may take ten
+/// seconds in all, and one second more for each 65,536 bytes that came; past that the client is too slow, and the read
+/// fails. A failed read counts a fault.
+#[derive(Drop)]
+pub struct SocketSource<W: Wait + Clock + Drop> {
+    hub: Arc<Hub, Global>,
+    link: Arc<Link, Global>,
+    rt: W,
+    ip: Ip,
+    room: Room,
+    // how many bytes of the message that is given are left; where that is not known, none
+    body: Option<u64>,
+    // the moment at which nothing had come, 0 where that was not looked at
+    since: u64,
+    // the moment at which a part of a head had come, 0 where that was not looked at
+    born: u64,
+    known: bool,
+    // how many requests were given
+    count: u64,
+    run: Run,
+    // whether the last head asked for the end of the connection
+    last: bool,
+    pace: Pace,
+    faults: u64,
+}
+
+impl<W: Wait + Clock + Drop> SocketSource<W> {
+    // a source of a connection, whose bytes so far stand in the room
+    pub(crate) fn new(
+        hub: Arc<Hub, Global>,
+        link: Arc<Link, Global>,
+        rt: W,
+        ip: Ip,
+        known: bool,
+        room: Room,
+        pace: Pace,
+    ) -> SocketSource<W>
+        ensures { result.faults ≡ 0 }
+    {
+        SocketSource {
+            hub,
+            link,
+            rt,
+            ip,
+            room,
+            body: Some(0),
+            since: 0,
+            born: 0,
+            known,
+            count: 0,
+            run: Run::Going,
+            last: false,
+            pace,
+            faults: 0,
+        }
+    }
+
+    /// How many of its calls failed, up to 2^64 - 1.
+    pub fn faults(&self) -> u64
+        ensures { result ≡ self.now.faults }
+    {
+        self.faults
+    }
+
+    // what is left of it where it is closed
+    pub(crate) fn into_left(self) -> Left {
+        let unread = !self.last || self.body != Some(0) || !self.room.bytes().is_empty();
+        let run = if self.faults > 0 { Run::Over } else { self.run };
+        let SocketSource {
+            hub: _,
+            link,
+            rt: _,
+            ip,
+            room,
+            body: _,
+            since,
+            born,
+            known,
+            count: _,
+            run: _,
+            last: _,
+            pace: _,
+            faults: _,
+        } = self;
+        Left {
+            link,
+            ip,
+            room,
+            since,
+            born,
+            known,
+            run,
+            unread,
+        }
+    }
+
+    // begins with the next message, of so many bytes
+    fn begin(&mut self, body: Option<u64>, last: bool)
+        ensures faults { self.new.faults ≡ self.old.faults }
+        ensures body { self.new.body ≡ body }
+    {
+        self.body = body;
+        self.last = last;
+        self.since = 0;
+        self.born = 0;
+        self.count = self.count.saturating_add(1);
+        self.link.begin();
+        self.pace.begin();
+    }
+
+    // reads until a whole head is there, or bytes that never become one, and begins with that message
+    fn next_message(&mut self) -> Moved
+        ensures faults { self.new.faults ≡ self.old.faults }
+    {
+        for _ in 0..MOST_WAITS {
+            match front_of(self.room.bytes()) {
+                Front::Whole(end) => {
+                    let next = what_follows(&self.room.bytes()[..end]);
+                    let body = match next.body {
+                        Some(body) => Some(body.saturating_add(end as u64)),
+                        None => None,
+                    };
+                    self.begin(body, next.last);
+                    return Moved::Some(end);
+                }
+                Front::Never => {
+                    self.begin(None, false);
+                    return Moved::Some(1);
+                }
+                Front::Open => {}
+            }
+            match self.more() {
+                Moved::Some(_) => {}
+                Moved::End => {
+                    if self.room.bytes().is_empty() {
+                        self.run = Run::Over;
+                        return Moved::End;
+                    }
+                    self.begin(None, false);
+                    return Moved::Some(1);
+                }
+                Moved::Later => return Moved::End,
+                Moved::Failed => return Moved::Failed,
+            }
+        }
+        Moved::Failed
+    }
+
+    // reads more of the next head; `Later` where the run is to end
+    fn more(&mut self) -> Moved
+        ensures faults { self.new.faults ≡ self.old.faults }
+    {
+        if self.count > 0 && self.count % BURST == 0 && self.is_to_yield() {
+            self.run = Run::Yielded;
+            return Moved::Later;
+        }
+        let soon = !self.hub.is_crowded();
+        match self.room.fill(&self.link.stream, soon) {
+            Moved::Later => self.wait_for_more(),
+            got => got,
+        }
+    }
+
+    // whether another connection is to be served now
+    fn is_to_yield(&self) -> bool {
+        self.hub.tidy(&self.rt);
+        self.hub.is_wanted()
+    }
+
+    // waits for more of the next head; `Later` where the run is to end
+    fn wait_for_more(&mut self) -> Moved
+        ensures faults { self.new.faults ≡ self.old.faults }
+    {
+        for _ in 0..MOST_WAITS {
+            match self.wait_once() {
+                Woken::First => match self.room.fill(&self.link.stream, false) {
+                    Moved::Later => {}
+                    got => return got,
+                },
+                Woken::Second => {
+                    if !self.hub.has_idle() {
+                        self.run = Run::Yielded;
+                        return Moved::Later;
+                    }
+                }
+                Woken::Neither => {
+                    if self.run == Run::Over {
+                        return Moved::Later;
+                    }
+                }
+            }
+        }
+        Moved::Failed
+    }
+
+    // waits for a while, for this connection and, where no worker is free, for the others
+    fn wait_once(&mut self) -> Woken
+        ensures faults { self.new.faults ≡ self.old.faults }
+    {
+        self.hub.tidy(&self.rt);
+        let now = clock_of(&self.rt);
+        let left = self.left_to_wait(now);
+        if left == 0 {
+            self.run = Run::Over;
+            return Woken::Neither;
+        }
+        let fd = self.link.stream.as_raw_fd();
+        if self.hub.has_idle() {
+            return wait_for_one(fd, c::POLLIN, left.min(LOOK_STEP));
+        }
+        wait_for_two(fd, self.hub.epoll(), left.min(self.hub.waits.tick))
+    }
+
+    // how long the next head may be waited for
+    fn left_to_wait(&mut self, now: u64) -> u64
+        ensures faults { self.new.faults ≡ self.old.faults }
+    {
+        if self.room.bytes().is_empty() {
+            if self.since == 0 {
+                self.since = now;
+            }
+            return self
+                .hub
+                .waits
+                .idle
+                .saturating_sub(now.saturating_sub(self.since));
+        }
+        if self.born == 0 {
+            self.born = now;
+        }
+        self.hub
+            .waits
+            .head
+            .saturating_sub(now.saturating_sub(self.born))
+    }
+
+    // gives bytes of the message, those that were read ahead first
+    fn give(&mut self, buf: &mut [u8]) -> Moved
+        requires { 0 < length buf.old }
+        ensures moved { IsMoved (length buf.new) result }
+        ensures message { IsPiece self.old.body self.new.body result }
+        ensures faults { self.new.faults ≡ self.old.faults }
+    {
+        let most = self.most_of(buf.len());
+        if !self.room.bytes().is_empty() {
+            let count = self.room.give(&mut buf[..most]);
+            self.note(count);
+            return Moved::Some(count);
+        }
+        let got = read_within(
+            &self.rt,
+            &self.link.stream,
+            &mut buf[..most],
+            &mut self.pace,
+        );
+        if let Moved::Some(count) = got {
+            self.note(count);
+        }
+        got
+    }
+
+    // how many bytes may be given at once where there is room for so many; one at least
+    fn most_of(&self, room: usize) -> usize
+        requires { 0 < room }
+        ensures within { result ≤ room }
+        ensures some { 0 < result }
+        ensures message { IfSome self.now.body (λ left. 0 < left → result ≤ left) }
+    {
+        match self.body {
+            Some(left) => if left < room as u64 {
+                (left as usize).max(1)
+            } else {
+                room
+            },
+            None => room,
+        }
+    }
+
+    // so many bytes of the message were given
+    fn note(&mut self, count: usize)
+        ensures body { self.new.body ≡ option_map (λ left. left - count) self.old.body }
+        ensures faults { self.new.faults ≡ self.old.faults }
+    {
+        match self.body {
+            Some(left) => self.body = Some(left.saturating_sub(count as u64)),
+            None => {}
+        }
+    }
+
+    // reads, and begins with the next message where the last one was given whole
+    fn take(&mut self, buf: &mut [u8]) -> Moved
+        requires { 0 < length buf.old }
+        ensures moved { IsMoved (length buf.new) result }
+        ensures faults { self.new.faults ≡ self.old.faults }
+    {
+        if self.run != Run::Going {
+            return Moved::End;
+        }
+        if self.body == Some(0) {
+            match self.next_message() {
+                Moved::Some(_) => {}
+                Moved::End => return Moved::End,
+                _ => return Moved::Failed,
+            }
+        }
+        self.give(buf)
+    }
+}
+
+impl<W: Wait + Clock + Drop> Source for SocketSource<W> {
+    ghost use Rattle.std.specs.Prelude.{◌<◌, length, None};
+    ghost use Rattle.edge_base.specs.Source.{IsCount, Reads, HasReadCause};
+
+    ghost left = { λ _. None };
+
+    ghost faults = { λ s. s.faults };
+
+    fn read(&mut self, buf: &mut [u8]) -> Took {
+        match self.take(buf) {
+            Moved::Some(count) => Took::Some(count),
+            Moved::End => Took::End,
+            _ => {
+                self.faults = self.faults.saturating_add(1);
+                Took::Failed
+            }
+        }
+    }
+}

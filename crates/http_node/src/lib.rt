@@ -3,6 +3,15 @@
 
 mod batch;
 mod note;
+mod options;
+mod serve;
+#[cfg(test)]
+mod tests;
 
 pub use batch::batch_main;
+pub use doors::{
+    Accepted, Connection, ConnectionList, Door, DoorEnd, MemoryDoor, MemoryOutside, MemoryWorker,
+    Outside, OutsideFault, Worker, WorkerList, serve_door,
+};
 pub use note::note_status;
+pub use serve::serve_main;

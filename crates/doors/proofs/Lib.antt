@@ -1,1 +1,4 @@
+pub mod EndedLemmas
 pub mod MemoryDoorLemmas
+pub mod MemoryOutsideLemmas
+pub mod VisitLemmas

@@ -115,16 +115,16 @@ impl MemoryDoor {
     }
 }
 
-// the connections, the first last
-fn turned(alloc: Global, given: ConnectionList) -> Result<Vec<Connection>, AllocError>
-    ensures { IfOk result (λ left. reverse left.items ≡ given) }
+// the items, the first last
+pub(crate) fn turned<T: Drop>(alloc: Global, items: Listing<T>) -> Result<Vec<T>, AllocError>
+    ensures { IfOk result (λ turned. reverse turned.items ≡ items) }
 {
-    let mut given = given;
-    let mut left = Vec::with_capacity(alloc, given.len())?;
-    'connections: while let Some(connection) = given.pop() {
-        left.push(connection)?;
+    let mut left = items;
+    let mut turned = Vec::with_capacity(alloc, left.len())?;
+    'items: while let Some(item) = left.pop() {
+        turned.push(item)?;
     }
-    Ok(left)
+    Ok(turned)
 }
 
 // takes the last connection and remembers it; none for want of memory

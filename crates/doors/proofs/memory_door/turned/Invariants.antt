@@ -1,8 +1,8 @@
 use Rattle.std.proofs.Common.{◌≡◌, ◌++◌, length, reverse}
 use Rattle.doors.proofs.memory_door.turned.Given as goal
 
-abbrev pub invariant-connections : goal.invariant-connections
-invariant-connections l = record { parts : l.initial.given ≡ l.given ++ reverse l.left.items }
+abbrev pub invariant-items : goal.invariant-items
+invariant-items g l = record { parts : l.initial.left ≡ l.left ++ reverse l.turned.items }
 
-abbrev pub decreases-connections : goal.decreases-connections
-decreases-connections l = length l.given
+abbrev pub decreases-items : goal.decreases-items
+decreases-items g l = length l.left

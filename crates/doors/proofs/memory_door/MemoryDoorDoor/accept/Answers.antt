@@ -1,5 +1,6 @@
 use Rattle.std.proofs.Common.{refl, ◌∙◌, sym, rules}
-use Rattle.doors.proofs.MemoryDoorLemmas.{first_unhurt, next_left, none_left, rest_unhurt, some_left}
+use Rattle.doors.proofs.MemoryDoorLemmas.{first_of, next_left, none_left, rest_all, some_left}
+use Rattle.doors.specs.MemoryDoor.{IsUnhurt}
 use Rattle.doors.proofs.memory_door.MemoryDoorDoor.accept.Goals as goal
 
 pub returns-then-is_empty-clause-next : goal.returns-then-is_empty-clause-next
@@ -23,7 +24,7 @@ returns-then-is_err-clause-next g c =
     )
 
 pub invariant_of-self-2 : goal.invariant_of-self-2
-invariant_of-self-2 g c = rest_unhurt _ _ _ c.self.invariant (next_left _ _ _ c.in-Some.ensures.taken)
+invariant_of-self-2 g c = rest_all IsUnhurt _ _ _ c.self.invariant (next_left _ _ _ c.in-Some.ensures.taken)
 
 pub returns-clause-fresh : goal.returns-clause-fresh
-returns-clause-fresh g c = first_unhurt _ _ _ c.self.invariant (next_left _ _ _ c.in-Some.ensures.taken)
+returns-clause-fresh g c = first_of IsUnhurt _ _ _ c.self.invariant (next_left _ _ _ c.in-Some.ensures.taken)

@@ -1,0 +1,89 @@
+// What no clause says: that a connection is served where there is memory.
+use crate::{Connection, ConnectionList, DoorEnd, MemoryDoor, Worker, serve_door};
+use cdni_base::{Body, Endpoint, Limits, Protocol, ProviderId, Target, Text, TypeName};
+use edge_base::{ListClock, MemorySink, MemorySource};
+use location_acl::{Ip, PlaceTable};
+use node_core::{Node, OneHome};
+use session::Settings;
+use std::alloc::Global;
+use std::test::Fail;
+use upstream_gate::{Got, MemoryGate, Outcome, OutcomeList};
+
+const REQUEST: &[u8] = b"GET /a HTTP/1.1\r\nHost: v.example\r\nConnection: close\r\n\r\n";
+
+const DOCUMENT: &[u8] =
+    b"{\"hosts\":[{\"host\":\"v.example\",\"host-metadata\":{\"metadata\":[{\"generic-metadata-type\":\"MI.SourceMetadata\",\"generic-metadata-value\":{\"sources\":[{\"endpoints\":[\"o.example\"],\"protocol\":\"http/1.1\"}]}}]}}]}";
+
+fn got(alloc: Global, kind: &[u8], body: &[u8]) -> Result<Outcome, Fail> {
+    let Some(kind) = TypeName::of(alloc, kind)? else {
+        return Err(Fail::from("a short name"));
+    };
+    match Got::new(200, kind, Body::of(alloc, body)?) {
+        Some(got) => Ok(Outcome::Got(got)),
+        None => Err(Fail::from("a status")),
+    }
+}
+
+fn settings(alloc: Global) -> Result<Settings, Fail> {
+    let Ok(control) = Endpoint::read(alloc, b"control.example") else {
+        return Err(Fail::from("a host"));
+    };
+    let Ok(root) = Target::read(alloc, b"http://up.example/i", None, false) else {
+        return Err(Fail::from("a URL"));
+    };
+    let Ok(own) = ProviderId::read(alloc, b"AS64496:0") else {
+        return Err(Fail::from("an id"));
+    };
+    Ok(Settings {
+        protocol: Protocol::Http,
+        control: control.host,
+        root,
+        own,
+    })
+}
+
+fn door(alloc: Global) -> Result<MemoryDoor, Fail> {
+    let mut given = ConnectionList::new(alloc);
+    given.push(Connection {
+        ip: Ip::V4(3_221_225_991),
+        source: MemorySource::new(alloc, REQUEST, &[])?,
+        sink: MemorySink::new(alloc, &[])?,
+    })?;
+    Ok(MemoryDoor::new(alloc, given, &[])?)
+}
+
+fn worker(alloc: Global) -> Result<Worker<MemoryDoor, MemoryGate, ListClock>, Fail> {
+    let mut outcomes = OutcomeList::new(alloc);
+    outcomes.push(got(alloc, b"application/json", DOCUMENT)?)?;
+    outcomes.push(got(alloc, b"text/plain", b"hello")?)?;
+    Ok(Worker {
+        door: door(alloc)?,
+        gate: MemoryGate::new(alloc, outcomes)?,
+        clock: ListClock::new(alloc, &[1000])?,
+    })
+}
+
+#[test]
+fn a_connection_is_served(rt: HostRuntime) -> Result<(), Fail> {
+    let alloc = rt.alloc();
+    let mut home = OneHome {
+        node: Node::new(
+            alloc,
+            &Limits::standard(),
+            Text::of(alloc, b"dcdn.example")?,
+        )?,
+        number: 0,
+    };
+    let mut worker = worker(alloc)?;
+    let Ok(places) = PlaceTable::read(alloc, b"") else {
+        return Err(Fail::from("a table"));
+    };
+    let settings = settings(alloc)?;
+    let end = serve_door(&rt, alloc, &mut home, &mut worker, &places, &settings, None);
+    assert_eq!(rt; end, DoorEnd::Closed);
+    let closed = worker.door.closed();
+    assert_eq!(rt; closed.len(), 1);
+    assert!(rt; closed[0].sink.held().starts_with(b"HTTP/1.1 200 OK\r\n"));
+    assert!(rt; closed[0].sink.held().ends_with(b"\r\n\r\nhello"));
+    Ok(())
+}

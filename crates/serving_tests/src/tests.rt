@@ -265,26 +265,28 @@ fn a_node_serves_clients_over_tcp(rt: HostRuntime) -> Result<(), Fail> {
     let addr = outside.local_addr().ok_or("address")?;
     let mut worker = outside.worker(&rt, alloc).ok().ok_or("worker")?;
     let ended = AtomicU64::new(0);
-    let ((end, asked), good) = join(
+    let (good, (asked, end)) = join(
         &rt,
+        || clients(&rt, alloc, addr, &ended),
         || {
             join(
                 &rt,
-                || serve(
-                    &rt,
-                    &rt,
-                    alloc,
-                    &mut home,
-                    &mut worker,
-                    &places,
-                    &settings,
-                    from,
-                    &ended,
-                ),
                 || origin(alloc, &listener, document).unwrap_or(0),
+                || {
+                    serve(
+                        &rt,
+                        &rt,
+                        alloc,
+                        &mut home,
+                        &mut worker,
+                        &places,
+                        &settings,
+                        from,
+                        &ended,
+                    )
+                },
             )
         },
-        || clients(&rt, alloc, addr, &ended),
     );
     assert_eq!(rt; end, DoorEnd::Served);
     assert_eq!(rt; good, 12);

@@ -1,8 +1,5 @@
-//! What no clause says of serving over real sockets: sessions over a node, served by `serve_door` over the TCP door, with the
-//! clients in the same process.
+//! Tests of serving over real sockets. There is no code beside them.
 #![tactic(auto)]
 
-#[cfg(test)]
-mod clients;
 #[cfg(test)]
 mod tests;

@@ -202,10 +202,14 @@ impl<W: Wait + Clock + Drop> SocketSource<W> {
         Moved::Failed
     }
 
-    // reads more of the next head; `Later` where the run is to end
+    // reads more of the next head; `Later` where the run is to end. Only where nothing of it came is it read without
+    // looking at the time and at the others.
     fn more(&mut self) -> Moved
         ensures faults { self.new.faults ≡ self.old.faults }
     {
+        if !self.room.bytes().is_empty() {
+            return self.wait_for_more();
+        }
         if self.count > 0 && self.count % BURST == 0 && self.is_to_yield() {
             self.run = Run::Yielded;
             return Moved::Later;

@@ -438,6 +438,17 @@ fn late_clients<N: Net<Stream = TcpStream> + Clock>(
     say(&half, &GET[..20])?;
     good = good.saturating_add(one_if(ends(&idle)));
     good = good.saturating_add(one_if(ends(&half)));
+    let dripping = dial(net, addr)?;
+    say(&dripping, GET)?;
+    good = good.saturating_add(one_if(hears(&dripping, alloc, OK)));
+    say(&dripping, &GET[..20])?;
+    for _ in 0..300 {
+        if say(&dripping, b"a").is_err() {
+            good = good.saturating_add(1);
+            break;
+        }
+        thread::sleep(net, Duration::from_millis(2));
+    }
     let last = dial(net, addr)?;
     say(&last, LAST)?;
     good = good.saturating_add(one_if(hears(&last, alloc, OK)));
@@ -457,14 +468,14 @@ fn late_connections_are_closed(rt: HostRuntime) -> Result<(), Fail> {
     let door = &mut worker.door;
     let (served, good) = join(
         &rt,
-        || serve_until(&rt, alloc, door, 201, OK),
+        || serve_until(&rt, alloc, door, 202, OK),
         || late_clients(&rt, alloc, addr).unwrap_or(0),
     );
-    assert_eq!(rt; good, 206);
+    assert_eq!(rt; good, 208);
     assert_eq!(rt;
         served,
         Served {
-            requests: 201,
+            requests: 202,
             ..NOTHING
         }
     );

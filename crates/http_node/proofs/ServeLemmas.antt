@@ -15,7 +15,7 @@ use Rattle.doors.specs.Address.{address_of}
 use Rattle.doors.specs.Door.{Book}
 use Rattle.doors.specs.Ended.{EndsItsOwn}
 use Rattle.doors.specs.Outside.{Asked, Diary, DiaryGrows, HasFaultCause, HasGivenNone, Hired, IsAllOf, IsNew, Listened, Tellings}
-use Rattle.doors.specs.Visit.{IsEndOf, IsVisit, Serves, Visit, Visited, calls_of, exchanges_of, given_of, moments_of, shut_of}
+use Rattle.doors.specs.Visit.{IsEndOf, IsVisit, Serves, Visit, Visited, calls_of, given_of, shut_of}
 use Rattle.doors.specs.declared.outside.OutsideFault.{OutsideFault}
 use Rattle.doors.specs.declared.outside.OutsideFault.TheVariants as fault
 use Rattle.doors.specs.declared.serve.DoorEnd.{DoorEnd}
@@ -26,12 +26,12 @@ use Rattle.listing.specs.Word.{◌>>=◌}
 use Rattle.location_acl.specs.Line.{AreLines, StopsAt}
 use Rattle.location_acl.specs.declared.line.PlaceLine.{PlaceLine}
 use Rattle.node_core.specs.Home.{AreOf, Who}
-use Rattle.session.specs.Doing.{Called, Told}
+use Rattle.session.specs.Doing.{Told}
 use Rattle.session.specs.Law.{KeepsTheLaw}
 use Rattle.session.specs.declared.settings.Settings.{Settings}
 use Rattle.targets.specs.declared.target.Target.{Target}
 use Rattle.http_node.specs.Options.{Options, made, options_at, options_of, root_of, settings_of, values_of}
-use Rattle.http_node.specs.Serve.{EndsWell, Hires, HiredOne, IsBookOf, IsCommand, IsOneHistory, IsPlan, IsShift, ServesAll, Shift, Shifted, Unhired, end_status, fault_status}
+use Rattle.http_node.specs.Serve.{EndsWell, Hires, HiredOne, IsBookOf, IsCommand, IsOneHistory, IsShift, Shift, Shifted, Unhired, end_status, fault_status}
 
 -- ---- a shift
 

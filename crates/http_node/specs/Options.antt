@@ -1,5 +1,5 @@
 -- The words of `serve`.
-use Rattle.std.specs.Prelude.{ℕ, Bool, true, false, not, List, [], ◌∷◌, codes, bytes_eq, None, Some, ◌==◌, ◌&&◌, if◌then◌else◌, String, string_bytes}
+use Rattle.std.specs.Prelude.{ℕ, Bool, false, not, List, [], ◌∷◌, codes, bytes_eq, None, Some, ◌==◌, ◌&&◌, if◌then◌else◌, String, string_bytes}
 use Rattle.std.specs.Result.{result_ok}
 use Rattle.std.specs.declared.option.Option.{Option}
 use Rattle.std.specs.declared.alloc.Global.{Global}

@@ -1,4 +1,4 @@
-use Rattle.std.proofs.Common.{List, [], ◌∙◌, ap, subst, Ok, Err}
+use Rattle.std.proofs.Common.{List, [], ◌∙◌, ap, subst, Err}
 use Rattle.std.specs.declared.result.Result.{Result}
 use Rattle.location_acl.specs.Table.{ReadsTable}
 use Rattle.location_acl.specs.declared.line.PlaceLine.{PlaceLine}

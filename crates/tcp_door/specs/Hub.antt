@@ -1,5 +1,5 @@
 -- Errors of accepting.
-use Rattle.std.specs.Prelude.{ℕ, ℤ, pos, negsuc, Bool, ◌==◌, ◌||◌, if◌then◌else◌}
+use Rattle.std.specs.Prelude.{ℤ, pos, negsuc, ◌==◌, ◌||◌, if◌then◌else◌}
 use Rattle.tcp_door.specs.declared.hub.Refusal.{Refusal}
 use Rattle.tcp_door.specs.declared.hub.Refusal.TheVariants.{Fault, Full, Passing}
 

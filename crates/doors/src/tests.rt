@@ -6,7 +6,9 @@ use location_acl::{Ip, PlaceTable};
 use node_core::{Node, OneHome};
 use session::Settings;
 use std::alloc::Global;
+use std::sync::Wait;
 use std::test::Fail;
+use std::thread::Threads;
 use upstream_gate::{Got, MemoryGate, Outcome, OutcomeList};
 
 const REQUEST: &[u8] = b"GET /a HTTP/1.1\r\nHost: v.example\r\nConnection: close\r\n\r\n";
@@ -63,23 +65,33 @@ fn worker(alloc: Global) -> Result<Worker<MemoryDoor, MemoryGate, ListClock>, Fa
     })
 }
 
+// serves the door's connections through a home of its own
+fn served<R: Threads + Wait + Sync>(
+    rt: &R,
+    alloc: Global,
+    worker: &mut Worker<MemoryDoor, MemoryGate, ListClock>,
+    places: &PlaceTable,
+    settings: &Settings,
+) -> Result<DoorEnd, Fail> {
+    let mut home = home(alloc)?;
+    Ok(serve_door(rt, alloc, &mut home, worker, places, settings, None))
+}
+
+fn home(alloc: Global) -> Result<OneHome, Fail> {
+    let origin = Text::of(alloc, b"dcdn.example")?;
+    let node = Node::new(alloc, &Limits::standard(), origin)?;
+    Ok(OneHome { node, number: 0 })
+}
+
 #[test]
 fn a_connection_is_served(rt: HostRuntime) -> Result<(), Fail> {
     let alloc = rt.alloc();
-    let mut home = OneHome {
-        node: Node::new(
-            alloc,
-            &Limits::standard(),
-            Text::of(alloc, b"dcdn.example")?,
-        )?,
-        number: 0,
-    };
-    let mut worker = worker(alloc)?;
     let Ok(places) = PlaceTable::read(alloc, b"") else {
         return Err(Fail::from("a table"));
     };
     let settings = settings(alloc)?;
-    let end = serve_door(&rt, alloc, &mut home, &mut worker, &places, &settings, None);
+    let mut worker = worker(alloc)?;
+    let end = served(&rt, alloc, &mut worker, &places, &settings)?;
     assert_eq!(rt; end, DoorEnd::Closed);
     let closed = worker.door.closed();
     assert_eq!(rt; closed.len(), 1);

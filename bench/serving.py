@@ -210,7 +210,10 @@ def one(server, case, program, workers, count):
 
 def measured(server, case, program, workers, count):
     words = ["unshare", "-n", sys.executable, __file__, "--one", server, case, program, str(workers), str(count)]
-    return float(subprocess.run(words, check=True, capture_output=True, text=True).stdout)
+    ended = subprocess.run(words, stdout=subprocess.PIPE, text=True)
+    if ended.returncode != 0:
+        raise SystemExit(f"{server}, {case}: no measurement")
+    return float(ended.stdout)
 
 
 def main():

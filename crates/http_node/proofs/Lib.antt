@@ -1,2 +1,3 @@
 mod BatchLemmas
 pub mod ServeLemmas
+pub mod TestLemmas

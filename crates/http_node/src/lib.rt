@@ -5,6 +5,8 @@ mod batch;
 mod note;
 mod options;
 mod serve;
+#[cfg(test)]
+mod tests;
 
 pub use batch::batch_main;
 pub use doors::{

@@ -1,0 +1,5 @@
+use Rattle.http_node.proofs.TestLemmas.{all_one}
+use Rattle.http_node.proofs.tests.a_worker_serves_and_is_given_back.Goals as goal
+
+pub new-requires : goal.new-requires
+new-requires g c = record { fresh = all_one c.push.new.self _ c.in_ok-worker.field-0 c.in_ok-push.ensures.ok c.new-workers.ensures c.in_ok-worker.ensures }

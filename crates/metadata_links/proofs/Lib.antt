@@ -1,0 +1,6 @@
+mod Following
+mod Items
+mod Members
+mod States
+mod Trees
+mod Walks

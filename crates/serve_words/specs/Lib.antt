@@ -1,0 +1,4 @@
+pub mod Form
+pub mod Matching
+pub mod Options
+pub mod Values

@@ -4,19 +4,19 @@ use Rattle.std.proofs.lemmas.Bool.{eq-eqb, cases_lt}
 use Rattle.http_wire.specs.Head.{HeadParts}
 use Rattle.location_acl.specs.declared.footprint.Place.{Place}
 use Rattle.session.specs.Answered.{answered}
-use Rattle.session.specs.Course.{is_short}
-use Rattle.session.specs.Doing.{Doing, then}
-use Rattle.session.specs.Ending.{next_of}
-use Rattle.session.specs.Moment.{capped}
-use Rattle.session.specs.Request.{manner_of, says_close}
+use Rattle.content_request.specs.Course.{is_short}
+use Rattle.session_base.specs.Doing.{Doing, then}
+use Rattle.session_base.specs.Ending.{next_of}
+use Rattle.session_base.specs.Moment.{capped}
+use Rattle.session_base.specs.Request.{manner_of, says_close}
 use Rattle.session.specs.Session.{Runs}
 use Rattle.session.specs.Turn.{HasNoRequest, Turn}
-use Rattle.session.specs.declared.ending.Ending.{Ending}
-use Rattle.session.specs.declared.ending.Ending.TheVariants as ending
-use Rattle.session.specs.declared.ending.Next.{Next}
-use Rattle.session.specs.declared.ending.Next.TheVariants as next
+use Rattle.session_base.specs.declared.ending.Ending.{Ending}
+use Rattle.session_base.specs.declared.ending.Ending.TheVariants as ending
+use Rattle.session_base.specs.declared.ending.Next.{Next}
+use Rattle.session_base.specs.declared.ending.Next.TheVariants as next
 use Rattle.session.specs.declared.serve.TheConstants.{TURNS_MAX}
-use Rattle.session.specs.declared.settings.Settings.{Settings}
+use Rattle.session_base.specs.declared.settings.Settings.{Settings}
 
 -- ---- what no turn is
 

@@ -9,18 +9,18 @@ use Rattle.history.specs.Laws.{ends_delivery, ends_fetch, ends_refresh}
 use Rattle.history.specs.declared.reply.Reply.{Reply}
 use Rattle.history.specs.declared.reply.Reply.TheVariants as reply
 use Rattle.location_acl.specs.declared.footprint.Place.{Place}
-use Rattle.session.specs.Answer.{Answer}
-use Rattle.session.specs.Course.{Course, NoRoom, Crowded, Full, Barred, Kept, Brought, Short, course_calls, finished}
-use Rattle.session.specs.Doing.{Called, Doing, then}
+use Rattle.session_base.specs.Answer.{Answer}
+use Rattle.content_request.specs.Course.{Course, NoRoom, Crowded, Full, Barred, Kept, Brought, Short, course_calls, finished}
+use Rattle.session_base.specs.Doing.{Called, Doing, then}
 use Rattle.session.specs.Ended.{AllEnded, EndsLater, IsEndedIn, opened_delivery, opened_fetch, opened_refresh}
-use Rattle.session.specs.Moment.{capped}
-use Rattle.session.specs.Refresh.{Refreshing, NoBegin, NotDue, Crowded as Thronged, Gathered, Ungathered, refresh_calls}
+use Rattle.session_base.specs.Moment.{capped}
+use Rattle.content_request.specs.Refresh.{Refreshing, NoBegin, NotDue, Crowded as Thronged, Gathered, Ungathered, refresh_calls}
 use Rattle.session.specs.Session.{Runs}
 use Rattle.session.specs.Turn.{Turn}
-use Rattle.session.specs.declared.ending.Ending.{Ending}
-use Rattle.session.specs.declared.ending.Next.{Next}
-use Rattle.session.specs.declared.ending.Next.TheVariants as next
-use Rattle.session.specs.declared.settings.Settings.{Settings}
+use Rattle.session_base.specs.declared.ending.Ending.{Ending}
+use Rattle.session_base.specs.declared.ending.Next.{Next}
+use Rattle.session_base.specs.declared.ending.Next.TheVariants as next
+use Rattle.session_base.specs.declared.settings.Settings.{Settings}
 
 later_too : (ends : ℕ → ℕ → Entry → Bool) (number : ℕ) (calls more : List Called) → IsEndedIn ends number calls → IsEndedIn ends number (calls ++ more)
 later_too ends number calls more is = list_any-append (λ call. ends number 0 (0, call.0)) calls more ∙ or_left _ _ is

@@ -13,20 +13,20 @@ use Rattle.history.specs.declared.reply.Reply.{Reply}
 use Rattle.history.specs.declared.reply.Reply.TheVariants as reply
 use Rattle.location_acl.specs.declared.footprint.Place.{Place}
 use Rattle.node_core.specs.Home.{AreOthers, Who}
-use Rattle.session.specs.Answer.{Answer}
-use Rattle.session.specs.Course.{Course, NoRoom, Crowded, Full, Barred, Kept, Brought, Short, course_calls, finished}
-use Rattle.session.specs.Doing.{Called, Doing, then, Told}
-use Rattle.session.specs.Moment.{capped}
+use Rattle.session_base.specs.Answer.{Answer}
+use Rattle.content_request.specs.Course.{Course, NoRoom, Crowded, Full, Barred, Kept, Brought, Short, course_calls, finished}
+use Rattle.session_base.specs.Doing.{Called, Doing, then, Told}
+use Rattle.session_base.specs.Moment.{capped}
 use Rattle.session.specs.Recorded.{AllRecorded, IsRecorded}
-use Rattle.session.specs.Refresh.{Refreshing, NoBegin, NotDue, Crowded as Thronged, Gathered, Ungathered, refresh_calls}
+use Rattle.content_request.specs.Refresh.{Refreshing, NoBegin, NotDue, Crowded as Thronged, Gathered, Ungathered, refresh_calls}
 use Rattle.session.specs.Session.{Runs}
 use Rattle.session.specs.Turn.{Turn}
-use Rattle.session.specs.declared.ending.Ending.{Ending}
-use Rattle.session.specs.declared.ending.Next.{Next}
-use Rattle.session.specs.declared.ending.Next.TheVariants as next
-use Rattle.session.specs.declared.settings.Settings.{Settings}
-use Rattle.session.proofs.DoingLemmas.{told_none}
-use Rattle.session.proofs.OpenLemmas.{Spares, is_opened, own_delivery, stays_open}
+use Rattle.session_base.specs.declared.ending.Ending.{Ending}
+use Rattle.session_base.specs.declared.ending.Next.{Next}
+use Rattle.session_base.specs.declared.ending.Next.TheVariants as next
+use Rattle.session_base.specs.declared.settings.Settings.{Settings}
+use Rattle.session_base.proofs.DoingLemmas.{told_none}
+use Rattle.session_base.proofs.OpenLemmas.{Spares, is_opened, own_delivery, stays_open}
 
 -- ---- calls one after the other
 

@@ -23,26 +23,26 @@ use Rattle.node_core.specs.Home.{Who}
 use Rattle.targets.specs.declared.target.Protocol.{Protocol}
 use Rattle.upstream_gate.specs.Outcome.{Exchange}
 use Rattle.upstream_gate.proofs.PlanLemmas.{grows_none, grows_on}
-use Rattle.session.specs.Answer.{Answer, Says, IsConstant}
-use Rattle.session.specs.Content.{IsShown, absent_shown}
-use Rattle.session.specs.Course.{Content, is_short}
-use Rattle.session.specs.Doing.{Doing, nothing, Any, Does}
-use Rattle.session.specs.Ending.{next_of}
-use Rattle.session.specs.Moment.{capped}
-use Rattle.session.specs.Request.{asked_of, manner_of, read_of}
+use Rattle.session_base.specs.Answer.{Answer, Says, IsConstant}
+use Rattle.session_base.specs.Content.{IsShown, absent_shown}
+use Rattle.content_request.specs.Course.{Content, is_short}
+use Rattle.session_base.specs.Doing.{Doing, nothing, Any, Does}
+use Rattle.session_base.specs.Ending.{next_of}
+use Rattle.session_base.specs.Moment.{capped}
+use Rattle.session_base.specs.Request.{asked_of, manner_of, read_of}
 use Rattle.session.specs.Session.{LeavesNext}
 use Rattle.session.specs.Turn.{AnnouncesMore, Turn, TurnBehind, HasNoRequest, IsRefused, IsRefusedBody, BreaksOff, Answers, IsControl, Writes, bad_next}
-use Rattle.session.specs.declared.constant.Constant.{Constant}
-use Rattle.session.specs.declared.constant.Constant.TheVariants as constant
-use Rattle.session.specs.declared.ending.Ending.{Ending}
-use Rattle.session.specs.declared.ending.Ending.TheVariants as ending
-use Rattle.session.specs.declared.ending.Next.{Next}
-use Rattle.session.specs.declared.ending.Next.TheVariants as next
-use Rattle.session.specs.declared.manner.Manner.{Manner}
-use Rattle.session.specs.declared.send.Sent.{Sent}
-use Rattle.session.specs.declared.settings.Settings.{Settings}
+use Rattle.session_base.specs.declared.constant.Constant.{Constant}
+use Rattle.session_base.specs.declared.constant.Constant.TheVariants as constant
+use Rattle.session_base.specs.declared.ending.Ending.{Ending}
+use Rattle.session_base.specs.declared.ending.Ending.TheVariants as ending
+use Rattle.session_base.specs.declared.ending.Next.{Next}
+use Rattle.session_base.specs.declared.ending.Next.TheVariants as next
+use Rattle.session_base.specs.declared.manner.Manner.{Manner}
+use Rattle.session_base.specs.declared.send.Sent.{Sent}
+use Rattle.session_base.specs.declared.settings.Settings.{Settings}
 use Rattle.session.specs.declared.turn.TheConstants.{BODY_LIMIT}
-use Rattle.session.proofs.DoingLemmas.{does_nothing, does_written}
+use Rattle.session_base.proofs.DoingLemmas.{does_nothing, does_written}
 
 -- what is read of a head, and what is not
 abbrev with_manner : Manner → Asked → Asked × Manner

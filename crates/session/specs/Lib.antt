@@ -1,17 +1,6 @@
-pub mod Answer
 pub mod Answered
-pub mod Content
-pub mod Course
-pub mod Doing
 pub mod Ended
-pub mod Ending
-pub mod Gathering
 pub mod Law
-pub mod Moment
-pub mod Open
 pub mod Recorded
-pub mod Refresh
-pub mod Request
 pub mod Session
-pub mod Telling
 pub mod Turn

@@ -9,21 +9,21 @@ use Rattle.http_wire.specs.declared.body.Framing.{Framing}
 use Rattle.http_wire.specs.declared.body.Framing.TheVariants as framing
 use Rattle.httparse.specs.Grammar.{MayBecomeRequest}
 use Rattle.location_acl.specs.declared.footprint.Place.{Place}
-use Rattle.session.specs.Answer.{Answer, IsConstant, Takes}
-use Rattle.session.specs.Content.{IsShown, absent_shown}
-use Rattle.session.specs.Course.{Content}
-use Rattle.session.specs.Doing.{Doing}
-use Rattle.session.specs.Ending.{next_of}
-use Rattle.session.specs.Moment.{capped}
-use Rattle.session.specs.Request.{asked_of, manner_of}
-use Rattle.session.specs.declared.constant.Constant.{Constant}
-use Rattle.session.specs.declared.constant.Constant.TheVariants as constant
-use Rattle.session.specs.declared.ending.Ending.{Ending}
-use Rattle.session.specs.declared.ending.Ending.TheVariants as ending
-use Rattle.session.specs.declared.ending.Next.{Next}
-use Rattle.session.specs.declared.ending.Next.TheVariants as next
-use Rattle.session.specs.declared.manner.Manner.{Manner}
-use Rattle.session.specs.declared.settings.Settings.{Settings}
+use Rattle.session_base.specs.Answer.{Answer, IsConstant, Takes}
+use Rattle.session_base.specs.Content.{IsShown, absent_shown}
+use Rattle.content_request.specs.Course.{Content}
+use Rattle.session_base.specs.Doing.{Doing}
+use Rattle.session_base.specs.Ending.{next_of}
+use Rattle.session_base.specs.Moment.{capped}
+use Rattle.session_base.specs.Request.{asked_of, manner_of}
+use Rattle.session_base.specs.declared.constant.Constant.{Constant}
+use Rattle.session_base.specs.declared.constant.Constant.TheVariants as constant
+use Rattle.session_base.specs.declared.ending.Ending.{Ending}
+use Rattle.session_base.specs.declared.ending.Ending.TheVariants as ending
+use Rattle.session_base.specs.declared.ending.Next.{Next}
+use Rattle.session_base.specs.declared.ending.Next.TheVariants as next
+use Rattle.session_base.specs.declared.manner.Manner.{Manner}
+use Rattle.session_base.specs.declared.settings.Settings.{Settings}
 use Rattle.session.specs.declared.turn.TheConstants.{BODY_LIMIT}
 
 -- the sink took a constant answer, or what it took of it

@@ -1,6 +1,6 @@
 use Rattle.std.proofs.Common.{[], refl, sym, ◌∙◌}
 use Rattle.http_wire.specs.Body.{framing_of}
-use Rattle.session.specs.declared.constant.Constant.TheVariants as constant
+use Rattle.session_base.specs.declared.constant.Constant.TheVariants as constant
 use Rattle.http_wire.proofs.MoveLemmas.{moves_nothing}
 use Rattle.session.proofs.TurnLemmas.{body_bad, body_coded, body_cut, body_fault, body_large, body_short, body_whole, broken, broken_short, dated, manner_at, read_none, read_some, refused, refused_body, refused_head, served}
 use Rattle.session.proofs.turn.serve_head.Goals as goal

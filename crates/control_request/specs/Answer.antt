@@ -1,5 +1,6 @@
 -- The answers to requests of the upstream CDN.
-use Rattle.std.specs.Prelude.{ℕ, List, [], ◌++◌, None, Some, codes}
+use Rattle.std.specs.Prelude.{◌≡◌, ℕ, List, [], ◌++◌, None, Some, codes}
+use Rattle.std.specs.declared.option.Option.{Option}
 use Rattle.answer_head.specs.declared.answer.Made.{Made}
 use Rattle.answer_head.specs.declared.answer.Made.TheVariants as thing
 use Rattle.footprints.specs.Advertisement.{advert_text}
@@ -36,6 +37,12 @@ made_with id text = record {
   text = text;
   made = Some (record { made = thing.Trigger; number = id });
 }
+
+-- with the resource, where there is one
+abbrev pub IsMadeWith : ℕ → Option (List ℕ) → Option ControlAnswer → Type 0
+IsMadeWith id (Some text) (Some answer) = answer ≡ made_with id text
+IsMadeWith id None (Some answer) = ⊥
+IsMadeWith id text None = Unit {0}
 
 -- a new trigger is answered with its resource, which is pending
 abbrev pub created : ℕ → SpecParts → ℕ → ControlAnswer

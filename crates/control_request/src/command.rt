@@ -1,10 +1,11 @@
 //! Trigger commands (RFC 8007, section 4.1).
 
-ghost use Rattle.std.specs.Prelude.{◌≡◌, ◌≤◌, ◌<◌, ℕ, None, IfSome};
+ghost use Rattle.std.specs.Prelude.{◌≡◌, ◌≤◌, ◌<◌, ℕ, IfSome, IsTrue};
 ghost use Rattle.cdni_base.specs.declared.date.TheConstants.{DATE_END};
 ghost use Rattle.edge_base.specs.Causes.{Rose};
 ghost use Rattle.edge_base.specs.Write.{HasCause};
-ghost use Rattle.control_request.specs.Answer.{created};
+ghost use Rattle.answer_head.specs.Answer.{is_answer_status};
+ghost use Rattle.control_request.specs.Answer.{IsMadeWith, created};
 ghost use Rattle.control_request.specs.Control.{Acts, Commands, IsCreated};
 ghost use Rattle.session_base.specs.Answer.{Says};
 ghost use Rattle.session_base.specs.Doing.{Any, Does, Doing};
@@ -18,7 +19,7 @@ use cdni_base::Text;
 use edge_base::{Clock, Sink};
 use history::{Call, Reply};
 use node_core::Home;
-use session_base::{AnswerRoom, Constant, Manner, Next, Settings, next_of, refuse};
+use session_base::{AnswerRoom, Constant, ControlAnswer, Manner, Next, Settings, next_of, refuse};
 use std::alloc::Global;
 use std::sync::Wait;
 use std::thread::Threads;
@@ -169,9 +170,20 @@ fn tell_created<K: Sink>(
         → Says (IsCreated settings.now manner.now id spec result.short) (K.held sink.old) (K.held sink.new) result.sent }
     ensures cause { HasCause (K.faults sink.old) (K.faults sink.new) result.sent.fault }
 {
-    let answer = match text {
-        Some(text) => made_with(alloc, id, text).ok(),
-        None => None,
-    };
+    let answer = resource_answer(alloc, id, text);
     answer_with(sink, settings, room, answer, manner)
+}
+
+// the answer with this resource, where memory was found for both
+fn resource_answer(alloc: Global, id: u64, text: Option<Text>) -> Option<ControlAnswer>
+    ensures answer { IsMadeWith id text result }
+    ensures status { IfSome result (λ answer. IsTrue (is_answer_status answer.status)) }
+{
+    match text {
+        Some(text) => match made_with(alloc, id, text) {
+            Ok(answer) => Some(answer),
+            Err(_) => None,
+        },
+        None => None,
+    }
 }

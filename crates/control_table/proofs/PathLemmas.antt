@@ -1,6 +1,9 @@
 -- No two paths are the same.
-use Rattle.std.proofs.Common.{◌≡◌, ℕ, ◌<◌, ◌≤◌, ◌^◌, Bool, true, false, List, [], ◌∷◌, ◌++◌, length, take, drop, refl, sym, ◌∙◌, ap, subst, None, Some, Option, cond, codes, decimal, bytes_eq, arith, length-append}
+use Rattle.std.proofs.Common.{◌≡◌, ◌⊎◌, inl, inr, IfSome, ℕ, suc, ◌+◌, ◌<◌, ◌≤◌, ◌^◌, Bool, true, false, List, [], ◌∷◌, ◌++◌, length, take, drop, refl, sym, ◌∙◌, ap, subst, None, Some, Option, cond, codes, decimal, bytes_eq, arith, length-append}
 use Rattle.std.proofs.lemmas.Bool.{both_ways}
+use Rattle.std.proofs.lemmas.List.{take-append-drop}
+use Rattle.std.proofs.lemmas.Slice.Eq.{bytes_eq-Decides}
+use Rattle.std.proofs.Math.Seq.{drop-append_seam, take-append_seam}
 use Rattle.std.proofs.lemmas.Option.{none-some, same_Some}
 use Rattle.listing.specs.Number.{number_of}
 use Rattle.listing.proofs.Decimals.{decimal_some}
@@ -15,7 +18,7 @@ no_number : (text : List ℕ) → None ≡ number_of text → (number : ℕ) →
 no_number text none number small same = none-some _ (decimal_some text None none number small same)
 
 -- the collections by their paths
-filter_of : List ℕ → Option Filter
+abbrev filter_of : List ℕ → Option Filter
 filter_of path =
     cond (bytes_eq path (codes "/triggers")) (Some filter.All)
     (cond (bytes_eq path (codes "/triggers/pending")) (Some filter.Pending)
@@ -43,10 +46,10 @@ no_filter path all pending active complete failed filter.Complete p = absurd (co
 no_filter path all pending active complete failed filter.Failed p = absurd (failed p)
 
 -- a path that is a collection's is not a trigger's
-rest_of : List ℕ → List ℕ
+abbrev rest_of : List ℕ → List ℕ
 rest_of path = drop 10 path
 
-name_of : Filter → List ℕ
+abbrev name_of : Filter → List ℕ
 name_of f = drop 10 (filter_path f)
 
 no_trigger : (f : Filter) (id : ℕ) → id < 2 ^ 64 → filter_path f ≡ codes "/triggers/" ++ decimal id → ⊥
@@ -57,7 +60,7 @@ no_trigger filter.Complete id small same = no_number (codes "complete") refl id 
 no_trigger filter.Failed id small same = no_number (codes "failed") refl id small (ap rest_of same)
 
 -- what kind of path it is, by its second byte
-second : List ℕ → ℕ
+abbrev second : List ℕ → ℕ
 second [] = 0
 second (a ∷ []) = 0
 second (a ∷ b ∷ rest) = b
@@ -88,7 +91,7 @@ is_advertisement path is place.Advertisement fits same = refl
 is_advertisement path is place.Logs fits same = absurd (seconds_differ path (codes "/fci") (codes "/logs") is same (λ e. omega (arith, e)))
 is_advertisement path is (place.Log number) fits same = absurd (seconds_differ path (codes "/fci") (codes "/logs/" ++ decimal number) is same (λ e. omega (arith, e)))
 
-fifth : List ℕ → List ℕ
+abbrev fifth : List ℕ → List ℕ
 fifth path = drop 5 path
 
 -- the path is that of the log files
@@ -113,7 +116,7 @@ is_trigger path id small is place.Advertisement fits same = absurd (seconds_diff
 is_trigger path id small is place.Logs fits same = absurd (seconds_differ path (codes "/logs") (codes "/triggers/" ++ decimal id) same is (λ e. omega (arith, e)))
 is_trigger path id small is (place.Log number) fits same = absurd (seconds_differ path (codes "/logs/" ++ decimal number) (codes "/triggers/" ++ decimal id) same is (λ e. omega (arith, e)))
 
-sixth : List ℕ → List ℕ
+abbrev sixth : List ℕ → List ℕ
 sixth path = drop 6 path
 
 pub is_log : (path : List ℕ) (number : ℕ) → number < 2 ^ 64 → path ≡ codes "/logs/" ++ decimal number → (p : ControlPath) → Fits p → path ≡ path_text p → Some (place.Log number) ≡ Some p
@@ -137,3 +140,16 @@ is_none path filters advertisement logs trigger log (place.Log number) fits same
 
 pub behind_front : (front path rest : List ℕ) (number : ℕ) → take (length front) path ≡ front → rest ≡ drop (length front) path → rest ≡ decimal number → path ≡ front ++ decimal number
 behind_front front path rest number fore behind is = sym (take-append-drop (length front) path) ∙ ap (λ (x : List ℕ). x ++ drop (length front) path) fore ∙ ap (λ (x : List ℕ). front ++ x) (sym behind ∙ is)
+
+too_short : (front path rest : List ℕ) → length path < length front → path ≡ front ++ rest → ⊥
+too_short front path rest less is = omega (arith, less, ap (λ (x : List ℕ). length x) is, length-append front rest)
+
+-- the path is shorter than the front, or begins otherwise
+pub no_number_behind : (front path : List ℕ) → (length path < length front) ⊎ (bytes_eq (take (length front) path) front ≡ false) → (number : ℕ) → path ≡ front ++ decimal number → None ≡ Some number
+no_number_behind front path (inl less) number is = absurd (too_short front path (decimal number) less is)
+no_number_behind front path (inr other) number is =
+    absurd (both_ways _ ((bytes_eq-Decides (take (length front) path) front).1 (ap (λ (x : List ℕ). take (length front) x) is ∙ take-append_seam front (decimal number))) other)
+
+pub some_behind : (front path : List ℕ) (found : Option ℕ) → take (length front) path ≡ front → IfSome found (λ number. drop (length front) path ≡ decimal number) → IfSome found (λ number. path ≡ front ++ decimal number)
+some_behind front path None fore is = tt
+some_behind front path (Some number) fore is = behind_front front path (drop (length front) path) number fore refl is

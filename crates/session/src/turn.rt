@@ -177,7 +177,7 @@ fn serve_whole<R: Threads + Wait + Sync, H: Home, K: Sink, G: Gate, C: Clock>(
     requires { manner.now.moment < DATE_END }
     ensures who { H.who home.new ≡ H.who home.old }
     ensures stays { H.stays home.old home.new }
-    ensures does { (d : Doing) × Answers settings.now place asked manner.now d result
+    ensures does { (d : Doing) × Answers settings.now place asked body.now manner.now d result
         × Does (H.who home.old) Any (H.has_seen home.old) (H.has_seen home.new) (C.given clock.old) (C.given clock.new)
         (G.exchanges gate.old) (G.exchanges gate.new) (K.held sink.old) (K.held sink.new) d }
     ensures later { K.faults sink.old ≤ K.faults sink.new }

@@ -139,12 +139,8 @@ impl AnswerRoom {
         ensures says { Says (IsShown (control_shown manner.now host.now answer.now)) (K.held sink.old) (K.held sink.new) result }
         ensures cause { HasCause (K.faults sink.old) (K.faults sink.new) result.fault }
     {
-        let text = answer.text.bytes();
-        let mut head = head_of(manner, answer.status, Some(&answer.kind), text.len() as u64);
-        head.length = length_of(answer.status, text.len() as u64);
-        head.allow = control_allow(answer.status);
-        head.location = location_of(host, answer.made);
-        say(sink, &mut self.head, &head, text)
+        let head = control_head(manner, host, answer);
+        say(sink, &mut self.head, &head, answer.text.bytes())
     }
 }
 
@@ -235,6 +231,27 @@ fn location_of<'h>(host: &'h HostName, made: Option<MadeAt>) -> Option<Location<
             number: at.number,
         }),
         None => None,
+    }
+}
+
+// the head of an answer to the upstream CDN
+fn control_head<'k>(
+    manner: &Manner,
+    host: &'k HostName,
+    answer: &'k ControlAnswer,
+) -> AnswerHead<'k>
+    ensures { saying_of result ≡ (control_shown manner.now host.now answer.now).0 }
+{
+    AnswerHead {
+        status: answer.status,
+        moment: manner.moment,
+        length: length_of(answer.status, answer.text.bytes().len() as u64),
+        kind: Some(&answer.kind),
+        ranges: false,
+        content_range: None,
+        allow: control_allow(answer.status),
+        location: location_of(host, answer.made),
+        close: manner.closes,
     }
 }
 

@@ -1,6 +1,6 @@
 //! Asking for content and for metadata.
 
-ghost use Rattle.std.specs.Prelude.{◌≡◌, ◌≤◌, List};
+ghost use Rattle.std.specs.Prelude.{◌≡◌, ◌≤◌, ◌↔◌, List, IsTrue};
 ghost use Rattle.edge_base.specs.Causes.{Rose};
 ghost use Rattle.edge_base.specs.Clock.{Grows};
 ghost use Rattle.session_base.specs.Gathering.{Gathers};
@@ -41,7 +41,13 @@ pub fn gather<G: Gate>(
 {
     match metadata_links::gather(alloc, gate, root) {
         Ok(tree) => Ok(Some(tree)),
-        Err(LinkFault::Memory) => Err(AllocError),
+        Err(fault) if is_memory(&fault) => Err(AllocError),
         Err(_) => Ok(None),
     }
+}
+
+fn is_memory(fault: &LinkFault) -> bool
+    ensures { IsTrue result ↔ (fault.now ≡ LinkFault.Memory) }
+{
+    matches!(fault, LinkFault::Memory)
 }

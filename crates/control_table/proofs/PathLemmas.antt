@@ -1,6 +1,8 @@
 -- No two paths are the same.
 use Rattle.std.proofs.Common.{◌≡◌, ◌⊎◌, inl, inr, IfSome, ℕ, suc, ◌+◌, ◌<◌, ◌≤◌, ◌^◌, Bool, true, false, List, [], ◌∷◌, ◌++◌, length, take, drop, refl, sym, ◌∙◌, ap, subst, None, Some, Option, cond, codes, decimal, bytes_eq, arith, length-append}
-use Rattle.std.proofs.lemmas.Bool.{both_ways}
+use Rattle.std.specs.Borrow.{Bor}
+use Rattle.std.proofs.lemmas.Bool.{cases_Bool, cond-false, cond-true}
+use Rattle.trigger_command.specs.TriggerUrl.{behind}
 use Rattle.std.proofs.lemmas.List.{take-append-drop}
 use Rattle.std.proofs.lemmas.Slice.Eq.{bytes_eq-Decides}
 use Rattle.std.proofs.Math.Seq.{drop-append_seam, take-append_seam}
@@ -138,18 +140,29 @@ is_none path filters advertisement logs trigger log (place.Log number) fits same
 
 -- ---- a number behind a front
 
-pub behind_front : (front path rest : List ℕ) (number : ℕ) → take (length front) path ≡ front → rest ≡ drop (length front) path → rest ≡ decimal number → path ≡ front ++ decimal number
-behind_front front path rest number fore behind is = sym (take-append-drop (length front) path) ∙ ap (λ (x : List ℕ). x ++ drop (length front) path) fore ∙ ap (λ (x : List ℕ). front ++ x) (sym behind ∙ is)
+behind_is : (front text rest : List ℕ) → behind front text ≡ Some rest → text ≡ front ++ rest
+behind_is front text rest is = elim (cases_Bool (bytes_eq (take (length front) text) front)) [
+  | inl same ↦
+      let tail : drop (length front) text ≡ rest = same_Some _ rest (sym (cond-true _ (Some (drop (length front) text)) None same) ∙ is) in
+      sym (take-append-drop (length front) text) ∙ ap (λ t. t ++ drop (length front) text) ((bytes_eq-Decides (take (length front) text) front).0 same) ∙ ap (λ t. front ++ t) tail
+  | inr differs ↦ absurd (none-some rest (sym (cond-false _ (Some (drop (length front) text)) None differs) ∙ is))
+]
 
-too_short : (front path rest : List ℕ) → length path < length front → path ≡ front ++ rest → ⊥
-too_short front path rest less is = omega (arith, less, ap (λ (x : List ℕ). length x) is, length-append front rest)
+behind_front : (front rest : List ℕ) → behind front (front ++ rest) ≡ Some rest
+behind_front front rest =
+    cond-true _ (Some (drop (length front) (front ++ rest))) None ((bytes_eq-Decides (take (length front) (front ++ rest)) front).1 (take-append_seam front rest)) ∙ ap Some (drop-append_seam front rest)
 
--- the path is shorter than the front, or begins otherwise
-pub no_number_behind : (front path : List ℕ) → (length path < length front) ⊎ (bytes_eq (take (length front) path) front ≡ false) → (number : ℕ) → path ≡ front ++ decimal number → None ≡ Some number
-no_number_behind front path (inl less) number is = absurd (too_short front path (decimal number) less is)
-no_number_behind front path (inr other) number is =
-    absurd (both_ways _ ((bytes_eq-Decides (take (length front) path) front).1 (ap (λ (x : List ℕ). take (length front) x) is ∙ take-append_seam front (decimal number))) other)
+-- the number that was read behind it
+pub found_behind : (front path : List ℕ) (rest : Bor (List ℕ)) (found : Option ℕ) → Some rest.now ≡ behind front path → IfSome found (λ number. rest.now ≡ decimal number) → IfSome found (λ number. path ≡ front ++ decimal number)
+found_behind front path rest None is read = tt
+found_behind front path rest (Some number) is read = behind_is front path rest.now (sym is) ∙ ap (λ (x : List ℕ). front ++ x) read
 
-pub some_behind : (front path : List ℕ) (found : Option ℕ) → take (length front) path ≡ front → IfSome found (λ number. drop (length front) path ≡ decimal number) → IfSome found (λ number. path ≡ front ++ decimal number)
-some_behind front path None fore is = tt
-some_behind front path (Some number) fore is = behind_front front path (drop (length front) path) number fore refl is
+pub only_behind : (front path : List ℕ) (rest : Bor (List ℕ)) → Some rest.now ≡ behind front path → (number : ℕ) → path ≡ front ++ decimal number → rest.now ≡ decimal number
+only_behind front path rest is number same = same_Some _ _ (is ∙ ap (behind front) same ∙ behind_front front (decimal number))
+
+-- nothing is behind it
+pub none_behind : (front path : List ℕ) → None ≡ behind front path → (number : ℕ) → path ≡ front ++ decimal number → None ≡ Some number
+none_behind front path is number same = absurd (none-some _ (is ∙ ap (behind front) same ∙ behind_front front (decimal number)))
+
+pub none_behind_as : (front path : List ℕ) (result : Option ℕ) → result ≡ None → None ≡ behind front path → (number : ℕ) → path ≡ front ++ decimal number → result ≡ Some number
+none_behind_as front path result none is number same = none ∙ none_behind front path is number same

@@ -1,8 +1,9 @@
 //! What stands at the control host.
 
-ghost use Rattle.std.specs.Prelude.{◌≡◌, ℕ, ◌<◌, ◌^◌, ◌++◌, decimal, IfSome, Some};
+ghost use Rattle.std.specs.Prelude.{◌≡◌, ℕ, ◌<◌, ◌^◌, ◌++◌, decimal, IfSome, Some, option_map};
 ghost use Rattle.control_table.specs.Path.{Fits, filter_path, path_text};
 ghost use Rattle.control_table.specs.declared.path.ControlPath.{ControlPath as Place};
+ghost use Rattle.trigger_command.specs.TriggerUrl.{behind};
 ghost use Rattle.trigger_status.specs.declared.job.Filter.{Filter as Which};
 
 use listing::read_decimal;
@@ -74,8 +75,17 @@ fn number_behind(front: &[u8], path: &[u8]) -> Option<u64>
     ensures found { IfSome result (λ number. path.now ≡ front.now ++ decimal number) }
     ensures complete { (number : ℕ) → number < 2 ^ 64 → path.now ≡ front.now ++ decimal number → result ≡ Some number }
 {
-    if path.len() < front.len() || &path[..front.len()] != front {
-        return None;
+    let rest = behind(front, path)?;
+    read_decimal(rest)
+}
+
+// what follows this front, where the path begins with it
+fn behind<'a>(front: &[u8], path: &'a [u8]) -> Option<&'a [u8]>
+    ensures { option_map (λ rest. rest.now) result ≡ behind front.now path.now }
+{
+    if front.len() <= path.len() && &path[..front.len()] == front {
+        Some(&path[front.len()..])
+    } else {
+        None
     }
-    read_decimal(&path[front.len()..])
 }

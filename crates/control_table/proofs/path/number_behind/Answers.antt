@@ -1,14 +1,12 @@
-use Rattle.std.proofs.Common.{inl, inr, sym, ◌∙◌, Some, None, IfSome, ℕ}
-use Rattle.std.proofs.lemmas.Bool.{not_from_false, not_to_false}
-use Rattle.control_table.proofs.PathLemmas.{no_number_behind, some_behind}
+use Rattle.control_table.proofs.PathLemmas.{found_behind, none_behind_as, only_behind}
 use Rattle.control_table.proofs.path.number_behind.Goals as goal
-use Rattle.control_table.proofs.path.number_behind.Goals.{then-path-front-via-then-path-front, then-path-front-via-else-path-front+then-ne}
 
-pub returns-then-path-front-clause-complete : goal.returns-then-path-front-clause-complete
-returns-then-path-front-clause-complete c = λ number small is. no_number_behind c.args.front.now c.args.path.now (elim c.then-path-front.branch [
-  | then-path-front-via-then-path-front w ↦ inl w.if-path-front.true
-  | then-path-front-via-else-path-front+then-ne w ↦ inr ?
-]) number is
+pub returns-clause-complete : goal.returns-clause-complete
+returns-clause-complete c = λ number small same.
+    c.read_decimal.ensures.complete number small (only_behind c.args.front.now c.args.path.now c.in_ok-rest.rest c.in_ok-rest.ensures number same)
 
 pub returns-clause-found : goal.returns-clause-found
-returns-clause-found c = some_behind c.args.front.now c.args.path.now c.read_decimal.result ? c.read_decimal.ensures.written
+returns-clause-found c = found_behind c.args.front.now c.args.path.now c.in_ok-rest.rest c.read_decimal.result c.in_ok-rest.ensures c.read_decimal.ensures.written
+
+pub returns-in_err-rest-clause-complete : goal.returns-in_err-rest-clause-complete
+returns-in_err-rest-clause-complete c = λ number small same. none_behind_as c.args.front.now c.args.path.now c.from_residual.result c.from_residual.ensures c.in_err-rest.ensures number same

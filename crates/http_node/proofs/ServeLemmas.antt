@@ -26,9 +26,9 @@ use Rattle.listing.specs.Word.{◌>>=◌}
 use Rattle.location_acl.specs.Line.{AreLines, StopsAt}
 use Rattle.location_acl.specs.declared.line.PlaceLine.{PlaceLine}
 use Rattle.node_core.specs.Home.{AreOf, Who}
-use Rattle.session.specs.Doing.{Told}
+use Rattle.session_base.specs.Doing.{Told}
 use Rattle.session.specs.Law.{KeepsTheLaw}
-use Rattle.session.specs.declared.settings.Settings.{Settings}
+use Rattle.session_base.specs.declared.settings.Settings.{Settings}
 use Rattle.targets.specs.declared.target.Target.{Target}
 use Rattle.http_node.specs.Options.{Options, made, options_at, options_of, root_of, settings_of, values_of}
 use Rattle.http_node.specs.Serve.{EndsWell, Hires, HiredOne, IsBookOf, IsCommand, IsOneHistory, IsShift, Shift, Shifted, Unhired, end_status, fault_status}

@@ -6,7 +6,7 @@ use Rattle.std.specs.declared.alloc.Global.{Global}
 use Rattle.cdni_base.specs.Limits.{default_limits}
 use Rattle.history.specs.World.{Made}
 use Rattle.listing.specs.Word.{◌>>=◌}
-use Rattle.session.specs.declared.settings.Settings.{Settings}
+use Rattle.session_base.specs.declared.settings.Settings.{Settings}
 use Rattle.targets.specs.Target.{begins_with, target_of}
 use Rattle.targets.specs.declared.target.Protocol.TheVariants as protocol
 use Rattle.targets.specs.declared.target.Target.{Target}
@@ -53,6 +53,7 @@ settings_of root = record {
   control = codes "control.example";
   root = root;
   own = record { 0 = codes "AS64496:0" };
+  advert = record { protocol = protocol.Http; footprints = [] };
 }
 
 abbrev pub made : Made

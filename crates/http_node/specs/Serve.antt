@@ -17,9 +17,9 @@ use Rattle.edge_base.specs.declared.status.Status.TheVariants as status
 use Rattle.history.specs.Event.{History}
 use Rattle.history.specs.World.{Made}
 use Rattle.location_acl.specs.declared.line.PlaceLine.{PlaceLine}
-use Rattle.session.specs.Doing.{Called, Told}
+use Rattle.session_base.specs.Doing.{Called, Told}
 use Rattle.session.specs.Law.{KeepsTheLaw}
-use Rattle.session.specs.declared.settings.Settings.{Settings}
+use Rattle.session_base.specs.declared.settings.Settings.{Settings}
 use Rattle.http_node.specs.Options.{Options, made, settings_of}
 
 -- the connections that a worker served, one after the other, and how that ended

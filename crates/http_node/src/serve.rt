@@ -11,13 +11,13 @@ ghost use Rattle.http_node.specs.Serve.{Hires, IsCommand, IsOneHistory, IsShift,
 
 use crate::note::note_status;
 use crate::options::{RootRead, read_root, values};
-use cdni_base::{HostName, Limits, Protocol, ProviderId, Target, Text};
+use cdni_base::{HostName, Limits, Protocol, ProviderId, Target, Text, TextList};
 use doors::law::what_visits_open_is_ended;
 use doors::{Door, DoorEnd, Outside, OutsideFault, Worker, serve_door};
 use edge_base::{Clock, Sink, Status};
 use location_acl::{PlaceFault, PlaceTable};
 use node_core::{Node, OneHome};
-use session::Settings;
+use session::{AdvertSettings, Settings};
 use std::alloc::{AllocError, Global};
 use std::sync::Wait;
 use std::thread::Threads;
@@ -140,12 +140,19 @@ fn make_home(alloc: Global) -> Result<OneHome, AllocError>
 fn make_settings(alloc: Global, root: Target) -> Result<Settings, AllocError>
     ensures { IfOk result (λ settings. settings ≡ settings_of root) }
 {
-    Ok(Settings {
-        protocol: Protocol::Http,
-        control: HostName(Text::of(alloc, CONTROL)?),
-        root,
-        own: ProviderId(Text::of(alloc, OWN)?),
-    })
+    let control = HostName(Text::of(alloc, CONTROL)?);
+    let own = ProviderId(Text::of(alloc, OWN)?);
+    let protocol = Protocol::Http;
+    match AdvertSettings::new(protocol, TextList::new(alloc)) {
+        Some(advert) => Ok(Settings {
+            protocol,
+            control,
+            root,
+            own,
+            advert,
+        }),
+        None => unreachable!(),
+    }
 }
 
 // the table of an empty text

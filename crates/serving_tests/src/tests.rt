@@ -1,11 +1,11 @@
 //! `serve_door` over TCP: clients, a node with its door and its gate, and an origin, all in one process.
 
-use cdni_base::{Endpoint, Limits, Protocol, ProviderId, Target, Text};
+use cdni_base::{Endpoint, Limits, Protocol, ProviderId, Target, Text, TextList};
 use doors::{Door, DoorEnd, Outside, Worker, serve_door};
 use edge_base::Clock;
 use location_acl::PlaceTable;
 use node_core::{Node, OneHome};
-use session::Settings;
+use session::{AdvertSettings, Settings};
 use std::alloc::Global;
 use std::io::{Read, Write};
 use std::net::{Net, Shutdown, SocketAddr, TcpListener, TcpStream};
@@ -174,6 +174,7 @@ fn settings_of(alloc: Global, origin: SocketAddr) -> Result<Settings, Fail> {
             .ok()
             .ok_or("URL")?,
         own: ProviderId::read(alloc, b"AS64496:0").ok().ok_or("id")?,
+        advert: AdvertSettings::new(Protocol::Http, TextList::new(alloc)).ok_or("footprints")?,
     })
 }
 

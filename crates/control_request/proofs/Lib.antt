@@ -1,0 +1,3 @@
+pub mod AdvanceLemmas
+pub mod CallLemmas
+pub mod ControlLemmas

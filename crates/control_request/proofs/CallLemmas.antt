@@ -20,7 +20,7 @@ use Rattle.trigger_command.specs.declared.command.Act.{Act}
 use Rattle.trigger_command.specs.declared.command.Act.TheVariants as act
 use Rattle.upstream_gate.specs.declared.outcome.Outcome.{Outcome}
 use Rattle.control_request.specs.Advance.{AdvanceStep, Behind, Steps, advanced}
-use Rattle.control_request.specs.Control.{Course, NoRoom, Uncalled, Called, Controls, Acts, Commands, Serves, IsActed, IsRead, IsRefused, course_calls, event_at}
+use Rattle.control_request.specs.Control.{Course, NoRoom, Uncalled, Replied, Controls, Acts, Commands, Serves, IsActed, IsRead, IsRefused, course_calls, event_at}
 use Rattle.control_request.specs.declared.advance.Step.{Step}
 use Rattle.control_request.specs.declared.advance.Step.TheVariants as step
 
@@ -55,9 +55,9 @@ event_read ask.ListLogs moment event is = subst IsControlEvent (same_Some _ _ is
 event_read (ask.ReadLog number) moment event is = subst IsControlEvent (same_Some _ _ is) tt
 event_read (ask.DropLog number) moment event is = subst IsControlEvent (same_Some _ _ is) tt
 
-event_acted : (given : Act) (moment : ℕ) (event : Event) (line : Reply) (short : Bool) → IsActed given moment (Called event line short) → IsControlEvent event
+event_acted : (given : Act) (moment : ℕ) (event : Event) (line : Reply) (short : Bool) → IsActed given moment (Replied event line short) → IsControlEvent event
 event_acted (act.Cancel ids) moment event line short is = subst IsControlEvent (sym is) tt
-event_acted (act.Trigger spec) moment event line short (is, full) = subst IsControlEvent (sym is) tt
+event_acted (act.Trigger spec) moment event line short (is, count, full) = subst IsControlEvent (sym is) tt
 
 -- what holds of no call, of calls after calls, of the one call of a request, of a step that begins nothing, and of one with the end of what it begins, holds of all calls of a request
 module _ (P : List OneCall → Type 0) (none : P []) (both : (calls more : List OneCall) → P calls → P more → P (calls ++ more))
@@ -114,19 +114,19 @@ module _ (P : List OneCall → Type 0) (none : P []) (both : (calls more : List 
   steps_have root id done (d ∷ ds) last all has (step.Rests, made, (over, same, is)) = subst (λ (x : Doing). P x.calls) (sym is) (both done.calls d.calls has (step_has root id d step.Rests made))
   steps_have root id done (d ∷ ds) last all has (step.Memory, made, (over, same, is)) = subst (λ (x : Doing). P x.calls) (sym is) (both done.calls d.calls has (step_has root id d step.Memory made))
 
-  course_has : (IsRight : Course → Type 0) → ((event : Event) (line : Reply) (short : Bool) → IsRight (Called event line short) → IsControlEvent event) → (course : Course) → IsRight course → P (course_calls course)
+  course_has : (IsRight : Course → Type 0) → ((event : Event) (line : Reply) (short : Bool) → IsRight (Replied event line short) → IsControlEvent event) → (course : Course) → IsRight course → P (course_calls course)
   course_has IsRight sound NoRoom right = none
   course_has IsRight sound (Uncalled given) right = none
-  course_has IsRight sound (Called event line short) right = one event line (sound event line short right)
+  course_has IsRight sound (Replied event line short) right = one event line (sound event line short right)
 
-  controls_have : (IsRight : Course → Type 0) → ((event : Event) (line : Reply) (short : Bool) → IsRight (Called event line short) → IsControlEvent event) → (settings : Settings) (manner : Manner) (d : Doing) (after : Next) → Controls IsRight settings manner d after → P d.calls
+  controls_have : (IsRight : Course → Type 0) → ((event : Event) (line : Reply) (short : Bool) → IsRight (Replied event line short) → IsControlEvent event) → (settings : Settings) (manner : Manner) (d : Doing) (after : Next) → Controls IsRight settings manner d after → P d.calls
   controls_have IsRight sound settings manner d after c = subst P (sym c.calls) (course_has IsRight sound c.course c.right)
 
   acts_have : (settings : Settings) (given : Act) (manner : Manner) (d : Doing) (after : Next) → Acts settings given manner d after → P d.calls
   acts_have settings given manner d after (inl c) = controls_have (IsActed given manner.moment) (λ event line short is. event_acted given manner.moment event line short is) settings manner d after c
   acts_have settings (act.Trigger spec) manner d after (inr t) =
       subst P (sym t.calls) (both ((Command spec manner.moment, reply.Created t.id) ∷ []) t.steps.calls (one (Command spec manner.moment) (reply.Created t.id) tt)
-          (steps_have settings.root t.id nothing t.advances.0 t.last t.steps none t.advances.1))
+      (steps_have settings.root t.id nothing t.advances.0 t.last t.steps none t.advances.1))
   acts_have settings (act.Cancel ids) manner d after (inr t) = absurd t
 
   commands_have : (settings : Settings) (body : List ℕ) (manner : Manner) (d : Doing) (after : Next) → Commands settings body manner d after → P d.calls

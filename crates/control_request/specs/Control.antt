@@ -1,5 +1,6 @@
 -- Requests of the upstream CDN, with what passes in them.
-use Rattle.std.specs.Prelude.{◌≡◌, ◌≢◌, ◌⊎◌, ℕ, Bool, true, false, List, [], ◌∷◌, ◌||◌, None, Some, Ok, Err}
+use Rattle.std.specs.Prelude.{◌≡◌, ◌≢◌, ◌⊎◌, ℕ, Bool, true, false, List, [], ◌∷◌, None, Some, Ok, Err}
+use Rattle.std.specs.Option.{option_map_or}
 use Rattle.std.specs.declared.option.Option.{Option}
 use Rattle.cdni_base.specs.declared.asked.Asked.{Asked}
 use Rattle.control_table.specs.Ask.{IsAskedAt}
@@ -14,7 +15,9 @@ use Rattle.session_base.specs.Doing.{Called, Doing}
 use Rattle.session_base.specs.Ending.{next_of}
 use Rattle.session_base.specs.declared.constant.Constant.TheVariants as constant
 use Rattle.session_base.specs.declared.control_answer.ControlAnswer.{ControlAnswer}
+use Rattle.session_base.specs.declared.ending.Ending.TheVariants as ending
 use Rattle.session_base.specs.declared.ending.Next.{Next}
+use Rattle.session_base.specs.declared.ending.Next.TheVariants as next
 use Rattle.session_base.specs.declared.manner.Manner.{Manner}
 use Rattle.session_base.specs.declared.settings.Settings.{Settings}
 use Rattle.trigger_command.specs.Reading.{command_of}
@@ -36,15 +39,20 @@ abbrev pub IsTold : Settings → Manner → Option ControlAnswer → Answer → 
 IsTold settings manner None answer = IsConstant constant.Unavailable answer
 IsTold settings manner (Some given) answer = IsShown (control_shown manner settings.control given) answer
 
+-- the limit that is reached, if one is
+abbrev pub full_count : Reply → Option ℕ
+full_count (reply.Full count) = Some count
+full_count other = None
+
 -- the answer to a reply; a limit is told with its number
 abbrev pub reply_shown : Settings → Manner → Reply → Shown
-reply_shown settings manner (reply.Full count) = full_shown manner count
-reply_shown settings manner other = control_shown manner settings.control (answer_to settings other)
+reply_shown settings manner line = option_map_or (λ count. full_shown manner count) (full_count line)
+    (control_shown manner settings.control (answer_to settings line))
 
 -- it was answered, or no memory was found for that; a reached limit is always answered
 abbrev pub IsReplied : Settings → Manner → Reply → Bool → Answer → Type 0
 IsReplied settings manner line false answer = IsShown (reply_shown settings manner line) answer
-IsReplied settings manner line true answer = IsConstant constant.Unavailable answer × ((count : ℕ) → line ≡ reply.Full count → ⊥)
+IsReplied settings manner line true answer = IsConstant constant.Unavailable answer × (full_count line ≡ None)
 
 -- a new trigger was answered with its resource, or no memory was found for that
 abbrev pub IsCreated : Settings → Manner → ℕ → SpecParts → Bool → Answer → Type 0
@@ -58,22 +66,22 @@ IsCreated settings manner id spec true answer = IsConstant constant.Unavailable 
 pub data Course : Type 0 where
   NoRoom : Course
   Uncalled : (given : ControlAnswer) → Course
-  Called : (event : Event) (line : Reply) (short : Bool) → Course
+  Replied : (event : Event) (line : Reply) (short : Bool) → Course
 
 abbrev pub course_calls : Course → List Called
 course_calls NoRoom = []
 course_calls (Uncalled given) = []
-course_calls (Called event line short) = (event, line) ∷ []
+course_calls (Replied event line short) = (event, line) ∷ []
 
 abbrev pub is_short : Course → Bool
 is_short NoRoom = true
 is_short (Uncalled given) = false
-is_short (Called event line short) = short
+is_short (Replied event line short) = short
 
 abbrev pub IsAnswerOf : Settings → Manner → Course → Answer → Type 0
 IsAnswerOf settings manner NoRoom answer = IsConstant constant.Unavailable answer
 IsAnswerOf settings manner (Uncalled given) answer = IsShown (control_shown manner settings.control given) answer
-IsAnswerOf settings manner (Called event line short) answer = IsReplied settings manner line short answer
+IsAnswerOf settings manner (Replied event line short) answer = IsReplied settings manner line short answer
 
 -- what passes in it, where its course is a right one
 pub record Controls (IsRight : Course → Type 0) (settings : Settings) (manner : Manner) (d : Doing) (after : Next) : Type 0 where
@@ -93,7 +101,7 @@ pub record Controls (IsRight : Course → Type 0) (settings : Settings) (manner 
 abbrev pub IsOnce : Event → Course → Type 0
 IsOnce event NoRoom = Unit {0}
 IsOnce event (Uncalled given) = ⊥
-IsOnce event (Called made line short) = made ≡ event
+IsOnce event (Replied made line short) = made ≡ event
 
 abbrev pub CallsOnce : Settings → Event → Manner → Doing → Next → Type 0
 CallsOnce settings event manner d after = Controls (IsOnce event) settings manner d after
@@ -123,7 +131,7 @@ uncalled settings other = empty 404
 abbrev pub IsRead : Settings → ControlAsk → ℕ → Course → Type 0
 IsRead settings which moment NoRoom = Unit {0}
 IsRead settings which moment (Uncalled given) = (event_at which moment ≡ None) × (given ≡ uncalled settings which)
-IsRead settings which moment (Called event line short) = event_at which moment ≡ Some event
+IsRead settings which moment (Replied event line short) = event_at which moment ≡ Some event
 
 -- ---- commands
 
@@ -131,13 +139,14 @@ IsRead settings which moment (Called event line short) = event_at which moment �
 abbrev pub IsActed : Act → ℕ → Course → Type 0
 IsActed given moment NoRoom = Unit {0}
 IsActed given moment (Uncalled answer) = ⊥
-IsActed (act.Cancel ids) moment (Called event line short) = event ≡ Cancel ids moment
-IsActed (act.Trigger spec) moment (Called event line short) = (event ≡ Command spec moment) × (count : ℕ) × (line ≡ reply.Full count)
+IsActed (act.Cancel ids) moment (Replied event line short) = event ≡ Cancel ids moment
+IsActed (act.Trigger spec) moment (Replied event line short) = (event ≡ Command spec moment) × (count : ℕ) × (line ≡ reply.Full count)
 
-abbrev pub is_memory : Step → Bool
-is_memory step.Goes = false
-is_memory step.Rests = false
-is_memory step.Memory = true
+-- what follows the steps: the end, where no memory was found in them
+abbrev pub next_behind : Step → Next → Next
+next_behind step.Goes after = after
+next_behind step.Rests after = after
+next_behind step.Memory after = next.Stops ending.Memory
 
 -- A new trigger: it is made, its answer is written, and it makes its steps. No memory for the answer, or in the steps, ends
 -- the connection.
@@ -155,7 +164,7 @@ pub record Triggers (settings : Settings) (spec : SpecParts) (manner : Manner) (
   pub moments : d.moments ≡ steps.moments
   pub exchanges : d.exchanges ≡ steps.exchanges
   pub calls : d.calls ≡ (Command spec manner.moment, reply.Created id) ∷ steps.calls
-  pub goes : after ≡ next_of manner.leaves (short || is_memory last) fault
+  pub goes : after ≡ next_behind last (next_of manner.leaves short fault)
 
 abbrev pub HasTrigger : Settings → Act → Manner → Doing → Next → Type 0
 HasTrigger settings (act.Trigger spec) manner d after = Triggers settings spec manner d after
@@ -170,7 +179,7 @@ abbrev pub IsRefused : Settings → List ℕ → Course → Type 0
 IsRefused settings body NoRoom = Unit {0}
 IsRefused settings body (Uncalled given) = (wrong : CommandFault) × (wrong ≢ fault.Memory)
     × (command_of settings.own settings.control body ≡ Err wrong) × (given ≡ refused wrong)
-IsRefused settings body (Called event line short) = ⊥
+IsRefused settings body (Replied event line short) = ⊥
 
 -- what passes in a command with this text
 abbrev pub Commands : Settings → List ℕ → Manner → Doing → Next → Type 0

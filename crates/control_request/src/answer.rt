@@ -1,8 +1,11 @@
 //! The answers to requests of the upstream CDN.
 
-ghost use Rattle.std.specs.Prelude.{◌≡◌, ◌≢◌, ◌≤◌, ℕ, length, IfOk, IfSome, IsTrue};
+ghost use Rattle.std.specs.Prelude.{◌≡◌, ◌≢◌, ◌≤◌, ℕ, length, codes, IfOk, IfSome, IsTrue};
 ghost use Rattle.answer_head.specs.Answer.{is_answer_status};
 ghost use Rattle.cdni_base.specs.declared.type_name.TheConstants.{TYPE_NAME_MAX};
+ghost use Rattle.trigger_status.specs.Collection.{collection_text};
+ghost use Rattle.trigger_status.specs.Job.{job_text};
+ghost use Rattle.control_request.specs.Lists.{numbers_text, statuses_text};
 ghost use Rattle.control_request.specs.Answer.{advertised, answer_to, created, empty, made, made_with, refused, refusal_status, with_text};
 
 use crate::lists::{numbers_json, statuses_json};
@@ -12,8 +15,8 @@ use footprints::advert;
 use history::Reply;
 use session_base::{ControlAnswer, MadeAt, Settings};
 use std::alloc::{AllocError, Global};
-use trigger_command::{CommandFault, Spec};
-use trigger_status::{IndexList, Job, JobStatus, collection_json, job_json};
+use trigger_command::{CommandFault, IdList, Spec};
+use trigger_status::{Filter, IndexList, Job, JobStatus, JobStatusList, collection_json, job_json};
 
 // The types of texts: a trigger's status, a collection of triggers, a log file, other JSON, and a line.
 const STATUS_KIND: &[u8] = b"application/cdni; ptype=ci-trigger-status";
@@ -30,24 +33,63 @@ const LINE_KIND: &[u8] = b"text/plain";
 pub(crate) fn answer_to(
     alloc: Global,
     settings: &Settings,
-    reply: Reply,
+    reply: &Reply,
 ) -> Result<ControlAnswer, AllocError>
-    ensures answer { IfOk result (λ answer. answer ≡ answer_to settings.now reply) }
+    ensures answer { IfOk result (λ answer. answer ≡ answer_to settings.now reply.now) }
     ensures status { IfOk result (λ answer. IsTrue (is_answer_status answer.status)) }
 {
     match reply {
-        Reply::Resource { job } => with_text(alloc, STATUS_KIND, job_json(alloc, &job)?),
-        Reply::Collection { filter, ids } => {
-            let text = collection_json(alloc, &ids, filter, &settings.own, &settings.control)?;
-            with_text(alloc, COLLECTION_KIND, text)
-        }
-        Reply::LogText { text } => with_text(alloc, LOG_KIND, text),
-        Reply::Numbers { list } => with_text(alloc, JSON_KIND, numbers_json(alloc, &list)?),
-        Reply::Statuses { list } => with_text(alloc, JSON_KIND, statuses_json(alloc, &list)?),
-        Reply::File { number } => made(alloc, Made::LogFile, number),
+        Reply::Resource { job } => resource_answer(alloc, job),
+        Reply::Collection { filter, ids } => collection_answer(alloc, settings, *filter, ids),
+        Reply::LogText { text } => file_answer(alloc, text),
+        Reply::Numbers { list } => numbers_answer(alloc, list),
+        Reply::Statuses { list } => statuses_answer(alloc, list),
+        Reply::File { number } => made(alloc, Made::LogFile, *number),
         Reply::Deleted | Reply::Dropped | Reply::NothingToCut => empty(alloc, 204),
         _ => empty(alloc, 404),
     }
+}
+
+// a log file
+fn file_answer(alloc: Global, text: &Text) -> Result<ControlAnswer, AllocError>
+    ensures { IfOk result (λ answer. answer ≡ with_text (codes "application/cdni; ptype=logging-file") text.now) }
+{
+    with_text(alloc, LOG_KIND, text.clone()?)
+}
+
+// a trigger
+fn resource_answer(alloc: Global, job: &Job) -> Result<ControlAnswer, AllocError>
+    ensures { IfOk result (λ answer. answer ≡ with_text (codes "application/cdni; ptype=ci-trigger-status") (job_text job.now)) }
+{
+    with_text(alloc, STATUS_KIND, job_json(alloc, job)?)
+}
+
+// a collection of triggers
+fn collection_answer(
+    alloc: Global,
+    settings: &Settings,
+    filter: Filter,
+    ids: &IdList,
+) -> Result<ControlAnswer, AllocError>
+    ensures { IfOk result (λ answer. answer ≡ with_text (codes "application/cdni; ptype=ci-trigger-collection")
+        (collection_text ids.now filter settings.now.own settings.now.control)) }
+{
+    let text = collection_json(alloc, ids, filter, &settings.own, &settings.control)?;
+    with_text(alloc, COLLECTION_KIND, text)
+}
+
+// the numbers of the log files
+fn numbers_answer(alloc: Global, list: &IdList) -> Result<ControlAnswer, AllocError>
+    ensures { IfOk result (λ answer. answer ≡ with_text (codes "application/json") (numbers_text list.now)) }
+{
+    with_text(alloc, JSON_KIND, numbers_json(alloc, list)?)
+}
+
+// the statuses of triggers
+fn statuses_answer(alloc: Global, list: &JobStatusList) -> Result<ControlAnswer, AllocError>
+    ensures { IfOk result (λ answer. answer ≡ with_text (codes "application/json") (statuses_text list.now)) }
+{
+    with_text(alloc, JSON_KIND, statuses_json(alloc, list)?)
 }
 
 // an answer without a text

@@ -1,15 +1,14 @@
 //! Trigger commands (RFC 8007, section 4.1).
 
-ghost use Rattle.std.specs.Prelude.{◌≡◌, ◌≤◌, ◌<◌, ℕ, IfSome, IsTrue};
+ghost use Rattle.std.specs.Prelude.{◌≡◌, ◌≤◌, ◌<◌, ◌↔◌, ℕ, IfSome, IsTrue};
 ghost use Rattle.cdni_base.specs.declared.date.TheConstants.{DATE_END};
 ghost use Rattle.edge_base.specs.Causes.{Rose};
 ghost use Rattle.edge_base.specs.Write.{HasCause};
 ghost use Rattle.answer_head.specs.Answer.{is_answer_status};
 ghost use Rattle.control_request.specs.Answer.{IsMadeWith, created};
-ghost use Rattle.control_request.specs.Control.{Acts, Commands, IsCreated};
+ghost use Rattle.control_request.specs.Control.{Acts, Commands, IsCreated, next_behind};
 ghost use Rattle.session_base.specs.Answer.{Says};
 ghost use Rattle.session_base.specs.Doing.{Any, Does, Doing};
-ghost use Rattle.session_base.specs.declared.ending.Ending.{Ending};
 ghost use Rattle.trigger_command.specs.Spec.{SpecParts};
 
 use crate::advance::{Step, advance_all};
@@ -19,7 +18,9 @@ use cdni_base::Text;
 use edge_base::{Clock, Sink};
 use history::{Call, Reply};
 use node_core::Home;
-use session_base::{AnswerRoom, Constant, ControlAnswer, Manner, Next, Settings, next_of, refuse};
+use session_base::{
+    AnswerRoom, Constant, ControlAnswer, Ending, Manner, Next, Settings, next_of, refuse,
+};
 use std::alloc::Global;
 use std::sync::Wait;
 use std::thread::Threads;
@@ -61,7 +62,7 @@ pub(crate) fn command<R: Threads + Wait + Sync, H: Home, K: Sink, G: Gate, C: Cl
             command.act,
             manner,
         ),
-        Err(CommandFault::Memory) => {
+        Err(fault) if is_memory(&fault) => {
             let sent = refuse(sink, Constant::Unavailable);
             next_of(manner.leaves, true, sent.fault)
         }
@@ -71,6 +72,12 @@ pub(crate) fn command<R: Threads + Wait + Sync, H: Home, K: Sink, G: Gate, C: Cl
             next_of(manner.leaves, told.short, told.sent.fault)
         }
     }
+}
+
+fn is_memory(fault: &CommandFault) -> bool
+    ensures { IsTrue result ↔ (fault.now ≡ CommandFault.Memory) }
+{
+    matches!(fault, CommandFault::Memory)
 }
 
 // makes a trigger, or cancels some
@@ -137,11 +144,7 @@ fn trigger<R: Threads + Wait + Sync, H: Home, K: Sink, G: Gate, C: Clock>(
         Ok(Reply::Created { id }) => {
             let told = tell_created(alloc, sink, settings, room, id, text, manner);
             let last = advance_all(rt, alloc, home, gate, clock, &settings.root, id);
-            next_of(
-                manner.leaves,
-                told.short || last == Step::Memory,
-                told.sent.fault,
-            )
+            next_behind(last, next_of(manner.leaves, told.short, told.sent.fault))
         }
         Ok(Reply::Full { count }) => {
             let sent = room.turn_away(sink, manner, count);
@@ -152,6 +155,16 @@ fn trigger<R: Threads + Wait + Sync, H: Home, K: Sink, G: Gate, C: Clock>(
             let sent = refuse(sink, Constant::Unavailable);
             next_of(manner.leaves, true, sent.fault)
         }
+    }
+}
+
+// what follows the steps of a trigger
+fn next_behind(last: Step, next: Next) -> Next
+    ensures { result ≡ next_behind last next }
+{
+    match last {
+        Step::Goes | Step::Rests => next,
+        Step::Memory => Next::Stops(Ending::Memory),
     }
 }
 

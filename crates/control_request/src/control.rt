@@ -1,13 +1,13 @@
 //! A request of the upstream CDN.
 
-ghost use Rattle.std.specs.Prelude.{◌≡◌, ◌≤◌, ◌<◌, IfOk, IfSome, IsTrue, None, is_none};
+ghost use Rattle.std.specs.Prelude.{◌≡◌, ◌≤◌, ◌<◌, ◌↔◌, IfOk, IfSome, IsTrue, None, is_none};
 ghost use Rattle.std.specs.Option.{option_map};
 ghost use Rattle.answer_head.specs.Answer.{is_answer_status};
 ghost use Rattle.cdni_base.specs.declared.date.TheConstants.{DATE_END};
 ghost use Rattle.edge_base.specs.Causes.{Rose};
 ghost use Rattle.edge_base.specs.Write.{HasCause};
 ghost use Rattle.history.specs.Event.{event_of};
-ghost use Rattle.control_request.specs.Control.{CallsOnce, IsReplied, IsTold, Serves, event_at, uncalled};
+ghost use Rattle.control_request.specs.Control.{CallsOnce, IsReplied, IsTold, Serves, event_at, full_count, uncalled};
 ghost use Rattle.session_base.specs.Answer.{Says};
 ghost use Rattle.session_base.specs.Doing.{Any, Does, Doing};
 ghost use Rattle.session_base.specs.declared.ending.Ending.{Ending};
@@ -52,7 +52,7 @@ pub fn serve_control<R: Threads + Wait + Sync, H: Home, K: Sink, G: Gate, C: Clo
     ensures write { result ≡ Next.Stops Ending.WriteFault → Rose (K.faults sink.old) (K.faults sink.new) }
 {
     let which = control_ask(asked.method.bytes(), asked.target.path.bytes());
-    if which == ControlAsk::Command {
+    if is_command(which) {
         return command(
             rt, alloc, home, sink, gate, clock, settings, room, body, manner,
         );
@@ -65,6 +65,12 @@ pub fn serve_control<R: Threads + Wait + Sync, H: Home, K: Sink, G: Gate, C: Clo
             next_of(manner.leaves, told.short, told.sent.fault)
         }
     }
+}
+
+fn is_command(which: ControlAsk) -> bool
+    ensures { IsTrue result ↔ (which ≡ ControlAsk.Command) }
+{
+    matches!(which, ControlAsk::Command)
 }
 
 // the one call of a request that is no command, where it has one
@@ -149,15 +155,41 @@ fn answer_reply<K: Sink>(
     ensures says { Says (IsReplied settings.now manner.now reply result.short) (K.held sink.old) (K.held sink.new) result.sent }
     ensures cause { HasCause (K.faults sink.old) (K.faults sink.new) result.sent.fault }
 {
-    match reply {
-        Reply::Full { count } => {
+    show_reply(alloc, sink, settings, room, &reply, manner)
+}
+
+// the same, of a reply that is kept
+fn show_reply<K: Sink>(
+    alloc: Global,
+    sink: &mut K,
+    settings: &Settings,
+    room: &mut AnswerRoom,
+    reply: &Reply,
+    manner: &Manner,
+) -> Told
+    requires { manner.now.moment < DATE_END }
+    ensures says { Says (IsReplied settings.now manner.now reply.now result.short) (K.held sink.old) (K.held sink.new) result.sent }
+    ensures cause { HasCause (K.faults sink.old) (K.faults sink.new) result.sent.fault }
+{
+    match full_count(reply) {
+        Some(count) => {
             let sent = room.turn_away(sink, manner, count);
             Told { sent, short: false }
         }
-        other => {
-            let answer = answer_to(alloc, settings, other).ok();
+        None => {
+            let answer = answer_to(alloc, settings, reply).ok();
             answer_with(sink, settings, room, answer, manner)
         }
+    }
+}
+
+// the limit that is reached, if one is
+fn full_count(reply: &Reply) -> Option<u64>
+    ensures { result ≡ full_count reply.now }
+{
+    match reply {
+        Reply::Full { count } => Some(*count),
+        _ => None,
     }
 }
 

@@ -24,6 +24,7 @@ pub(crate) fn numbers_json(alloc: Global, numbers: &IdList) -> Result<Text, Allo
 }
 
 // adds the numbers of a list, and its end
+#[tactic(auto, using(trigger_status::proofs::ItemLemmas::item_added, trigger_status::proofs::ItemLemmas::items_added))]
 fn add_numbers(out: &mut Vec<u8>, numbers: &[u64]) -> Result<(), AllocError>
     ensures { OnOk result (out.new.items ≡ out.old.items ++ items_text false (each_as number_data numbers.now)) }
 {
@@ -65,6 +66,7 @@ pub(crate) fn statuses_json(alloc: Global, list: &JobStatusList) -> Result<Text,
 }
 
 // adds the statuses of a list, and its end
+#[tactic(auto, using(trigger_status::proofs::ItemLemmas::item_added, trigger_status::proofs::ItemLemmas::items_added))]
 fn add_statuses(out: &mut Vec<u8>, list: &[JobStatus]) -> Result<(), AllocError>
     ensures { OnOk result (out.new.items ≡ out.old.items ++ items_text false (each_as status_data list.now)) }
 {

@@ -8,7 +8,7 @@ use Rattle.cdni_base.specs.declared.asked.Asked.{Asked}
 use Rattle.content_request.specs.Course.{Course as ContentCourse, NoRoom as NoPlace, Crowded, Full, Barred, Kept, Brought, Short, course_calls as content_calls}
 use Rattle.content_request.specs.Refresh.{Refreshing, NoBegin, NotDue, Crowded as Thronged, Gathered, Ungathered, refresh_calls}
 use Rattle.control_request.specs.Advance.{AdvanceStep, Behind, FetchesFor, RefreshesFor, Steps, advanced, step_after}
-use Rattle.control_request.specs.Control.{Acts, Commands, Controls, Course, NoRoom, Uncalled, Called as OneCall, IsActed, IsRead, IsRefused, Serves, Triggers, course_calls, event_at, is_memory}
+use Rattle.control_request.specs.Control.{Acts, Commands, Controls, Course, NoRoom, Uncalled, Replied, IsActed, IsRead, IsRefused, Serves, Triggers, course_calls, event_at, next_behind}
 use Rattle.control_request.specs.declared.advance.Step.{Step}
 use Rattle.control_request.specs.declared.advance.Step.TheVariants as step
 use Rattle.control_table.specs.declared.ask.ControlAsk.{ControlAsk}
@@ -121,15 +121,15 @@ refresh_step id at line root refresh behind after r =
     (subst (λ (x : Doing). NoneNew (advanced id at line ∷ x.calls)) (sym r.is) (refl, (refl, tt)), λ rests. no_refresh root refresh behind after r rests)
 
 behind_steps : (root : Target) (id at : ℕ) (line : Reply) (behind : Doing) (after : Step) → Behind root line behind after → Stepping id (advanced id at line ∷ behind.calls) after
-behind_steps root id at reply.Started behind after b = goes_step id at _ behind after b.0 b.1
-behind_steps root id at (reply.Skipped index) behind after b = goes_step id at _ behind after b.0 b.1
-behind_steps root id at (reply.Fetch fetch plan target) behind after b = fetch_step id at _ fetch plan target behind after b
-behind_steps root id at (reply.Refresh refresh) behind after b = refresh_step id at _ root refresh behind after b
-behind_steps root id at (reply.Final status) behind after b = last_step id at _ behind after refl b.0
-behind_steps root id at (reply.Unknown number) behind after b = last_step id at _ behind after refl b.0
-behind_steps root id at (reply.Full count) behind after b = last_step id at _ behind after refl b.0
-behind_steps root id at (reply.Claimed pass) behind after b = last_step id at _ behind after refl b.0
-behind_steps root id at (reply.StepOpen number) behind after b = last_step id at _ behind after refl b.0
+behind_steps root id at reply.Started behind after b = goes_step id at reply.Started behind after b.0 b.1
+behind_steps root id at (reply.Skipped index) behind after b = goes_step id at (reply.Skipped index) behind after b.0 b.1
+behind_steps root id at (reply.Fetch fetch plan target) behind after b = fetch_step id at (reply.Fetch fetch plan target) fetch plan target behind after b
+behind_steps root id at (reply.Refresh refresh) behind after b = refresh_step id at (reply.Refresh refresh) root refresh behind after b
+behind_steps root id at (reply.Final status) behind after b = last_step id at (reply.Final status) behind after refl b.0
+behind_steps root id at (reply.Unknown number) behind after b = last_step id at (reply.Unknown number) behind after refl b.0
+behind_steps root id at (reply.Full count) behind after b = last_step id at (reply.Full count) behind after refl b.0
+behind_steps root id at (reply.Claimed pass) behind after b = last_step id at (reply.Claimed pass) behind after refl b.0
+behind_steps root id at (reply.StepOpen number) behind after b = last_step id at (reply.StepOpen number) behind after refl b.0
 behind_steps root id at (reply.Denied delivery rule) behind after b = absurd b
 behind_steps root id at (reply.Hit delivery fetch kind body) behind after b = absurd b
 behind_steps root id at (reply.Miss delivery fetch plan) behind after b = absurd b
@@ -187,25 +187,21 @@ new_rests settings spec manner d after t enough = rests_by settings.root t.id t.
 
 -- ---- a request
 
--- the connection ends there: for want of memory, or since the sink failed
+-- the connection ends there for want of memory
 abbrev Breaks : Next → Type 0
-Breaks after = (after ≡ next.Stops ending.Memory) ⊎ (after ≡ next.Stops ending.WriteFault)
+Breaks after = after ≡ next.Stops ending.Memory
 
-breaks_short : (leaves : Bool) → next_of leaves true false ≡ next.Stops ending.Memory
-breaks_short true = refl
-breaks_short false = refl
+breaks_behind : (last : Step) (after : Next) → is_short_step last ≡ true → Breaks (next_behind last after)
+breaks_behind step.Goes after is = absurd (both_ways false refl is)
+breaks_behind step.Rests after is = absurd (both_ways false refl is)
+breaks_behind step.Memory after is = refl
 
-breaks_by : (leaves short fault : Bool) → short ≡ true → Breaks (next_of leaves short fault)
-breaks_by leaves true true is = inr refl
-breaks_by leaves true false is = inl (breaks_short leaves)
-breaks_by leaves false fault is = absurd (both_ways false refl is)
-
-course_none : (IsRight : Course → Type 0) → ((event : Event) (line : Reply) (short : Bool) → IsRight (OneCall event line short) → new_trigger (event, line) ≡ None) → (course : Course) → IsRight course → NoneNew (course_calls course)
+course_none : (IsRight : Course → Type 0) → ((event : Event) (line : Reply) (short : Bool) → IsRight (Replied event line short) → new_trigger (event, line) ≡ None) → (course : Course) → IsRight course → NoneNew (course_calls course)
 course_none IsRight sound NoRoom right = tt
 course_none IsRight sound (Uncalled given) right = tt
-course_none IsRight sound (OneCall event line short) right = (sound event line short right, tt)
+course_none IsRight sound (Replied event line short) right = (sound event line short right, tt)
 
-controls_none : (IsRight : Course → Type 0) → ((event : Event) (line : Reply) (short : Bool) → IsRight (OneCall event line short) → new_trigger (event, line) ≡ None) → (settings : Settings) (manner : Manner) (d : Doing) (after : Next) → Controls IsRight settings manner d after → NoneNew d.calls
+controls_none : (IsRight : Course → Type 0) → ((event : Event) (line : Reply) (short : Bool) → IsRight (Replied event line short) → new_trigger (event, line) ≡ None) → (settings : Settings) (manner : Manner) (d : Doing) (after : Next) → Controls IsRight settings manner d after → NoneNew d.calls
 controls_none IsRight sound settings manner d after c = subst NoneNew (sym c.calls) (course_none IsRight sound c.course c.right)
 
 read_none : (which : ControlAsk) (moment : ℕ) (event : Event) (line : Reply) → event_at which moment ≡ Some event → new_trigger (event, line) ≡ None
@@ -221,9 +217,9 @@ read_none ask.ListLogs moment event line is = subst (λ (e : Event). new_trigger
 read_none (ask.ReadLog number) moment event line is = subst (λ (e : Event). new_trigger (e, line) ≡ None) (same_Some _ event is) refl
 read_none (ask.DropLog number) moment event line is = subst (λ (e : Event). new_trigger (e, line) ≡ None) (same_Some _ event is) refl
 
-acted_none : (given : Act) (moment : ℕ) (event : Event) (line : Reply) (short : Bool) → IsActed given moment (OneCall event line short) → new_trigger (event, line) ≡ None
+acted_none : (given : Act) (moment : ℕ) (event : Event) (line : Reply) (short : Bool) → IsActed given moment (Replied event line short) → new_trigger (event, line) ≡ None
 acted_none (act.Cancel ids) moment event line short is = subst (λ (e : Event). new_trigger (e, line) ≡ None) (sym is) refl
-acted_none (act.Trigger spec) moment event line short (is, (count, full)) = subst (λ (e : Event). new_trigger (e, line) ≡ None) (sym is) (subst (λ (r : Reply). new_trigger (Command spec moment, r) ≡ None) (sym full) refl)
+acted_none (act.Trigger spec) moment event line short (is, count, full) = subst (λ (e : Event). new_trigger (e, line) ≡ None) (sym is) (subst (λ (r : Reply). new_trigger (Command spec moment, r) ≡ None) (sym full) refl)
 
 created_rests : (settings : Settings) (spec : _) (manner : Manner) (d : Doing) (after : Next) → (t : Triggers settings spec manner d after) → t.last ≢ step.Memory → AllRest d.calls
 created_rests settings spec manner d after t enough = subst AllRest (sym t.calls) (
@@ -235,9 +231,9 @@ abbrev RestsOrBreaks : List Called → Next → Type 0
 RestsOrBreaks calls after = AllRest calls ⊎ Breaks after
 
 triggers_rest : (settings : Settings) (spec : _) (manner : Manner) (d : Doing) (after : Next) → (t : Triggers settings spec manner d after) → RestsOrBreaks d.calls after
-triggers_rest settings spec manner d after t = elim (cases_Bool (is_memory t.last)) [
-  | inl short ↦ inr (subst Breaks (sym t.goes) (breaks_by manner.leaves (t.short || is_memory t.last) t.fault (or_right t.short (is_memory t.last) short)))
-  | inr enough ↦ inl (created_rests settings spec manner d after t (λ is. both_ways (is_memory t.last) enough (ap is_memory is)))
+triggers_rest settings spec manner d after t = elim (cases_Bool (is_short_step t.last)) [
+  | inl short ↦ inr (subst Breaks (sym t.goes) (breaks_behind t.last (next_of manner.leaves t.short t.fault) short))
+  | inr enough ↦ inl (created_rests settings spec manner d after t (λ is. both_ways (is_short_step t.last) enough (ap is_short_step is)))
 ]
 
 acts_rest : (settings : Settings) (given : Act) (manner : Manner) (d : Doing) (after : Next) → Acts settings given manner d after → RestsOrBreaks d.calls after
@@ -284,23 +280,21 @@ end_in next.GoesOn = None
 end_in (next.Stops end) = Some end
 
 on_breaks : {A : Type 0} → Breaks next.GoesOn → A
-on_breaks (inl is) = absurd (none-some ending.Memory (ap end_in is))
-on_breaks (inr is) = absurd (none-some ending.WriteFault (ap end_in is))
+on_breaks is = absurd (none-some ending.Memory (ap end_in is))
 
-end_breaks : {A : Type 0} (end e : Ending) → end ≡ e → end ≢ ending.Memory → end ≢ ending.WriteFault → Breaks (next.Stops e) → A
-end_breaks end e same enough well (inl is) = absurd (enough (same ∙ same_Some e ending.Memory (ap end_in is)))
-end_breaks end e same enough well (inr is) = absurd (well (same ∙ same_Some e ending.WriteFault (ap end_in is)))
+end_breaks : {A : Type 0} (end e : Ending) → end ≡ e → end ≢ ending.Memory → Breaks (next.Stops e) → A
+end_breaks end e same enough is = absurd (enough (same ∙ same_Some e ending.Memory (ap end_in is)))
 
-pub runs_rest : (settings : Settings) (place : Place) (n : ℕ) (done : Doing) (turns : List Doing) (end : Ending) (all : Doing) → AllRest done.calls → Runs settings place n done turns end all → end ≢ ending.Memory → end ≢ ending.WriteFault → AllRest all.calls
+pub runs_rest : (settings : Settings) (place : Place) (n : ℕ) (done : Doing) (turns : List Doing) (end : Ending) (all : Doing) → AllRest done.calls → Runs settings place n done turns end all → end ≢ ending.Memory → AllRest all.calls
 unfolding Runs
-runs_rest settings place n done [] end all rests runs enough well = subst (λ (x : Doing). AllRest x.calls) (sym runs.2) rests
-runs_rest settings place n done (d ∷ ds) end all rests (within, next.GoesOn, turn, rest) enough well = elim (turn_rests settings place _ d next.GoesOn turn) [
-  | inl here ↦ runs_rest settings place (n + 1) (then done d) ds end all (rest_then done.calls d.calls rests here) rest enough well
+runs_rest settings place n done [] end all rests runs enough = subst (λ (x : Doing). AllRest x.calls) (sym runs.2) rests
+runs_rest settings place n done (d ∷ ds) end all rests (within, next.GoesOn, turn, rest) enough = elim (turn_rests settings place _ d next.GoesOn turn) [
+  | inl here ↦ runs_rest settings place (n + 1) (then done d) ds end all (rest_then done.calls d.calls rests here) rest enough
   | inr breaks ↦ on_breaks breaks
 ]
-runs_rest settings place n done (d ∷ ds) end all rests (within, next.Stops e, turn, (last, same, is)) enough well = elim (turn_rests settings place _ d (next.Stops e) turn) [
+runs_rest settings place n done (d ∷ ds) end all rests (within, next.Stops e, turn, (last, same, is)) enough = elim (turn_rests settings place _ d (next.Stops e) turn) [
   | inl here ↦ subst (λ (x : Doing). AllRest x.calls) (sym is) (rest_then done.calls d.calls rests here)
-  | inr breaks ↦ end_breaks end e same enough well breaks
+  | inr breaks ↦ end_breaks end e same enough breaks
 ]
 
 -- ---- in the history

@@ -90,16 +90,16 @@ pub fn a_thousand_answers_end_a_session()
 
 /// Each trigger that is created in a session makes its steps there until it has its last status or a step is refused: where it is
 /// deleted, another pass makes its steps, a limit is reached, or the step before is open. In the history to which the session
-/// leads it then has its last status, or it was deleted, or a step was refused. A session that ends for want of memory, or since
-/// the sink failed, may have found no memory for a step; where it did, in the trigger's own request, nothing more is said.
+/// leads it then has its last status, or it was deleted, or a step was refused. Only a session that ends for want of memory may
+/// have found none for a step of its last request's trigger.
 pub fn each_new_trigger_becomes_final()
-    ensures request { (settings : Settings) (spec : SpecParts) (manner : Manner) (d : Doing) (after : Next)
+    ensures steps { (settings : Settings) (spec : SpecParts) (manner : Manner) (d : Doing) (after : Next)
         → (trigger : Triggers settings spec manner d after)
         → trigger.last ≢ step.Memory → RestsIn trigger.id trigger.steps.calls }
     ensures rests { (settings : Settings) (place : Place) (d : Doing) (end : Ending)
-        → Session settings place d end → end ≢ ending.Memory → end ≢ ending.WriteFault → AllRest d.calls }
+        → Session settings place d end → end ≢ ending.Memory → AllRest d.calls }
     ensures settles { (who : Who) (settings : Settings) (place : Place) (d : Doing) (end : Ending) (h last : History)
-        → Session settings place d end → Told who h d.calls last → end ≢ ending.Memory → end ≢ ending.WriteFault
+        → Session settings place d end → Told who h d.calls last → end ≢ ending.Memory
         → AllSettle who.made last d.calls }
 {
     a_final_trigger_stays_final();

@@ -117,10 +117,6 @@ abbrev pub IsBounded : Outcome → Type 0
 IsBounded (outcome.Got got) = IsGot got
 IsBounded other = Unit {0}
 
--- nothing stands at this path of the control host
-abbrev pub absent_shown : Manner → Shown
-absent_shown manner = (saying manner 404 [] 0, [])
-
 -- ---- requests of the upstream CDN
 
 -- Method Not Allowed names the methods of control

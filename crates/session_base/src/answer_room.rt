@@ -8,7 +8,7 @@ ghost use Rattle.cdni_base.specs.Rule.{rule_text};
 ghost use Rattle.cdni_base.specs.declared.date.TheConstants.{DATE_END};
 ghost use Rattle.edge_base.specs.Write.{HasCause};
 ghost use Rattle.session_base.specs.Answer.{IsSaid, Says, kind_in, saying_of};
-ghost use Rattle.session_base.specs.Content.{IsBounded, IsShown, saying, whole_shown, denied_shown, full_shown, part_shown, content_shown, gateway_text, brought_shown, absent_shown, control_shown, control_allow, length_of, location_at, allow_of, body_for};
+ghost use Rattle.session_base.specs.Content.{IsBounded, IsShown, saying, whole_shown, denied_shown, full_shown, part_shown, content_shown, gateway_text, brought_shown, control_shown, control_allow, length_of, location_at, allow_of, body_for};
 ghost use Rattle.upstream_gate.specs.Got.{IsGot};
 
 use crate::control_answer::{ControlAnswer, MadeAt};
@@ -114,16 +114,6 @@ impl AnswerRoom {
         put_gateway(&mut self.text, outcome);
         let text = self.text.bytes();
         say_whole(sink, &mut self.head, manner, 502, &self.plain, text)
-    }
-
-    /// Writes that nothing stands at a path of the control host.
-    pub fn miss_control<K: Sink>(&mut self, sink: &mut K, manner: &Manner) -> Sent
-        requires { manner.now.moment < DATE_END }
-        ensures says { Says (IsShown (absent_shown manner.now)) (K.held sink.old) (K.held sink.new) result }
-        ensures cause { HasCause (K.faults sink.old) (K.faults sink.new) result.fault }
-    {
-        let head = head_of(manner, 404, None, 0);
-        say(sink, &mut self.head, &head, b"")
     }
 
     /// Writes the answer to a request of the upstream CDN to this host.

@@ -10,10 +10,10 @@ pub returns-in-Body-clause-does : goal.returns-in-Body-clause-does
 returns-in-Body-clause-does g c = λ front spells.
     let clock = c.read_clock-moment.ensures.read in
     let read = read_some _ _ _ _ _ (sym c.in-Ok-Some.field-0-is ∙ c.in-Ok-Some.ensures) in
-    let whole = body_whole (framing_of c.args.head.now.headers) (g.S.Source.left c.args.source.now) (g.S.Source.left c.body_of.new.source) c.args.inbox.now c.body_of.new.inbox c.in-Body.field-0 c.in-Body.ensures.bytes in
+    let whole = body_whole (framing_of c.args.head.now.headers) (g.S.Source.left c.args.source.now) (g.S.Source.left c.body_of.new.source) c.args.inbox.now c.body_of.new.inbox c.in-Body.body c.in-Body.ensures.bytes in
     let rest = c.serve_whole.ensures.does in
     let answers = subst (λ (x : List ℕ). Answers c.args.settings.now c.args.place c.in-Ok-Some.asked x c.in-Ok-Some.manner rest.0 c.serve_whole.result) c.bytes.ensures rest.1 in
-    served front c.in-Body.field-0 _ _ _ _ _ _ _ _ _ _ _ _ _ _ c.args.settings.now c.args.place c.args.last c.args.head.now clock.0 c.in-Ok-Some.asked c.in-Ok-Some.manner c.serve_whole.result rest.0 spells read.0
+    served front c.in-Body.body _ _ _ _ _ _ _ _ _ _ _ _ _ _ c.args.settings.now c.args.place c.args.last c.args.head.now clock.0 c.in-Ok-Some.asked c.in-Ok-Some.manner c.serve_whole.result rest.0 spells read.0
     (manner_at c.args.head.now _ clock.0 c.args.last c.in-Ok-Some.manner read.1 clock.2) whole.0 clock.1 whole.1 answers rest.2
 
 pub returns-in-Coded-clause-does : goal.returns-in-Coded-clause-does

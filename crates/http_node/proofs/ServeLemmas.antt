@@ -14,8 +14,8 @@ use Rattle.edge_base.specs.declared.status.Status.TheVariants as status
 use Rattle.doors.specs.Address.{address_of}
 use Rattle.doors.specs.Door.{Book}
 use Rattle.doors.specs.Ended.{EndsItsOwn}
-use Rattle.doors.specs.Outside.{Asked, Diary, DiaryGrows, HasFaultCause, HasGivenNone, Hired, IsAllOf, IsNew, Listened, Tellings}
-use Rattle.doors.specs.Visit.{IsEndOf, IsVisit, Serves, Visit, Visited, calls_of, given_of, shut_of}
+use Rattle.doors.specs.Outside.{Asked, Diary, DiaryGrows, HasFaultCause, HasPassedNothing, Hired, IsAllOf, IsNew, Listened, Tellings}
+use Rattle.doors.specs.Visit.{IsEndOf, IsVisit, Serves, Visit, Visited, calls_of, passed_of}
 use Rattle.doors.specs.declared.outside.OutsideFault.{OutsideFault}
 use Rattle.doors.specs.declared.outside.OutsideFault.TheVariants as fault
 use Rattle.doors.specs.declared.serve.DoorEnd.{DoorEnd}
@@ -41,11 +41,11 @@ all_of None (Some new) more none grows = elim grows [ ]
 all_of (Some old) None more none grows = tt
 all_of (Some old) (Some new) more none grows = grows ∙ ap (λ l. l ++ more) none
 
-book_of : (old new : Option Book) (visits : List Visit) → HasGivenNone old → Visited old new visits → IsBookOf new visits
+book_of : (old new : Option Book) (visits : List Visit) → HasPassedNothing old → Visited old new visits → IsBookOf new visits
 book_of None None visits none visited = tt
 book_of None (Some new) visits none visited = elim visited [ ]
 book_of (Some old) None visits none visited = tt
-book_of (Some old) (Some new) visits none visited = (visited.given ∙ ap (λ l. l ++ map given_of visits) none.0, visited.closed ∙ ap (λ l. l ++ map shut_of visits) none.1)
+book_of (Some old) (Some new) visits none visited = visited.passed ∙ ap (λ l. l ++ flat_map passed_of visits) none
 
 pub is_shift : (settings : Settings) (table : List PlaceLine) (who : Who) (a b : History → Type 0) (before after : Tellings) (visits : List Visit) (end : DoorEnd)
     → IsNew before → Serves settings table who a b before.moments after.moments before.exchanges after.exchanges before.book after.book visits → IsEndOf None (length visits) after.book end

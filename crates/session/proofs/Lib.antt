@@ -1,5 +1,6 @@
 pub mod AnsweredLemmas
 pub mod EndedLemmas
+pub mod FullLemmas
 pub mod RecordedLemmas
 pub mod SessionLemmas
 pub mod SettledLemmas

@@ -1,5 +1,6 @@
 pub mod Answered
 pub mod Ended
+pub mod Full
 pub mod Law
 pub mod Recorded
 pub mod Session

@@ -2,6 +2,7 @@
 #![tactic(auto)]
 
 pub mod law;
+pub mod limit_law;
 mod serve;
 mod turn;
 

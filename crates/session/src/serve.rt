@@ -14,6 +14,7 @@ use crate::law::{
     each_delivery_of_a_session_has_its_row, the_end_of_a_delivery_tells_what_was_written,
     what_is_opened_is_ended,
 };
+use crate::limit_law::a_reached_limit_is_answered;
 use crate::turn::serve_one;
 use edge_base::{Clock, Sink, Source};
 use http_wire::Inbox;
@@ -69,6 +70,7 @@ pub fn serve_session<R: Threads + Wait + Sync, H: Home, S: Source, K: Sink, G: G
     a_request_for_content_is_answered_whole();
     a_thousand_answers_end_a_session();
     each_delivery_of_a_session_has_its_row();
+    a_reached_limit_is_answered();
     let Ok((mut inbox, mut room)) = make_room(alloc) else {
         return match fall_short(sink) {
             Next::Stops(ending) => ending,

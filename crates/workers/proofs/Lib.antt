@@ -1,0 +1,4 @@
+pub mod CrewLemmas
+pub mod FinishingLemmas
+pub mod HiringLemmas
+pub mod JobLemmas

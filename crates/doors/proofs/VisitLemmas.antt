@@ -21,9 +21,9 @@ use Rattle.session.specs.declared.settings.Settings.{Settings}
 use Rattle.upstream_gate.proofs.PlanLemmas.{grows_none, grows_on}
 use Rattle.upstream_gate.specs.Outcome.{Exchange}
 use Rattle.doors.proofs.EndedLemmas.{all_then, since}
-use Rattle.doors.specs.Door.{Accepts, Book, Given, Shut, Shuts, One, Closed, Failed, Memory}
+use Rattle.doors.specs.Door.{Accepts, Book, Gave, Given, Passed, Shuts, Took, One, Closed, Failed, Memory}
 use Rattle.doors.specs.Ended.{EndsItsOwn, EndsSince}
-use Rattle.doors.specs.Visit.{HasNoneLeft, IsEndOf, IsStep, IsVisit, Serves, Visit, Visited, VisitedIn, calls_of, exchanges_of, given_of, moments_of, shut_of}
+use Rattle.doors.specs.Visit.{HasNoneLeft, IsEndOf, IsStep, IsVisit, Serves, Visit, Visited, VisitedIn, calls_of, exchanges_of, given_of, moments_of, passed_of}
 use Rattle.doors.specs.declared.serve.DoorEnd.{DoorEnd}
 use Rattle.doors.specs.declared.serve.DoorEnd.TheVariants as door_end
 use Rattle.doors.specs.declared.serve.Step.{Step}
@@ -32,7 +32,7 @@ use Rattle.doors.specs.declared.serve.Step.TheVariants as step
 -- ---- what a door tells
 
 still : (old new : Book) → new ≡ old → VisitedIn old new []
-still old new same = subst (λ (b : Book). VisitedIn old b []) (sym same) (record { left = refl; given = sym (append-nil old.given); closed = sym (append-nil old.closed) })
+still old new same = subst (λ (b : Book). VisitedIn old b []) (sym same) (record { left = refl; passed = sym (append-nil old.passed) })
 
 visited_none : (book : Option Book) → Visited book book []
 visited_none None = tt
@@ -71,8 +71,7 @@ visited_one (Some old) None None v a s = tt
 visited_one (Some old) (Some middle) None v a s = tt
 visited_one (Some old) (Some middle) (Some new) v a s = record {
   left = a.0 ∙ ap (λ (l : List Given). v.given ∷ l) (sym s.left);
-  given = s.given ∙ a.1;
-  closed = s.closed ∙ ap (λ (l : List Shut). l ++ v.shut ∷ []) a.2;
+  passed = s.passed ∙ ap (λ (l : List Passed). l ++ Took v.shut ∷ []) a.1 ∙ append_assoc old.passed (Gave v.given ∷ []) (Took v.shut ∷ []);
 }
 
 visited_then : (a b c : Option Book) (vs ws : List Visit) → Visited a b vs → Visited b c ws → Visited a c (vs ++ ws)
@@ -84,8 +83,7 @@ visited_then (Some a) None None vs ws p q = tt
 visited_then (Some a) (Some b) None vs ws p q = tt
 visited_then (Some a) (Some b) (Some c) vs ws p q = record {
   left = p.left ∙ ap (λ (l : List Given). map given_of vs ++ l) q.left ∙ sym (append_assoc (map given_of vs) (map given_of ws) c.left) ∙ ap (λ (l : List Given). l ++ c.left) (sym (map-append given_of vs ws));
-  given = q.given ∙ ap (λ (l : List Given). l ++ map given_of ws) p.given ∙ append_assoc a.given (map given_of vs) (map given_of ws) ∙ ap (λ (l : List Given). a.given ++ l) (sym (map-append given_of vs ws));
-  closed = q.closed ∙ ap (λ (l : List Shut). l ++ map shut_of ws) p.closed ∙ append_assoc a.closed (map shut_of vs) (map shut_of ws) ∙ ap (λ (l : List Shut). a.closed ++ l) (sym (map-append shut_of vs ws));
+  passed = q.passed ∙ ap (λ (l : List Passed). l ++ flat_map passed_of ws) p.passed ∙ append_assoc a.passed (flat_map passed_of vs) (flat_map passed_of ws) ∙ ap (λ (l : List Passed). a.passed ++ l) (sym (flat_map-append passed_of vs ws));
 }
 
 above : (n : ℕ) → (n ≡ 0 → ⊥) → 0 < n

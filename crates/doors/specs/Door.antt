@@ -20,11 +20,15 @@ pub record Shut : Type 0 where
   pub read_faults : ℕ
   pub write_faults : ℕ
 
--- what a door tells: the connections that it has left, those that it gave, and those that were closed, each in order
+-- what passed at a door: it gave a connection, or a connection was closed
+pub data Passed : Type 0 where
+  Gave : (given : Given) → Passed
+  Took : (shut : Shut) → Passed
+
+-- what a door tells: the connections that it has left, and what passed, each in order
 pub record Book : Type 0 where
   pub left : List Given
-  pub given : List Given
-  pub closed : List Shut
+  pub passed : List Passed
 
 -- what was accepted
 pub data Answer : Type 0 where
@@ -42,8 +46,7 @@ given_by left held accepted.Memory = Memory
 
 -- the next connection was given; none is left; or a fault or want of memory, which changes nothing
 abbrev pub AcceptsIn : Book → Book → Answer → Type 0
-AcceptsIn old new (One given) = (old.left ≡ given ∷ new.left) × (new.given ≡ old.given ++ given ∷ [])
-    × (new.closed ≡ old.closed)
+AcceptsIn old new (One given) = (old.left ≡ given ∷ new.left) × (new.passed ≡ old.passed ++ Gave given ∷ [])
 AcceptsIn old new Closed = (old.left ≡ []) × (new ≡ old)
 AcceptsIn old new Failed = (0 < length old.left) × (new ≡ old)
 AcceptsIn old new Memory = new ≡ old
@@ -80,8 +83,7 @@ shut_of left read_faults held write_faults source sink = record {
 -- the connection was closed
 pub record ShutsIn (old new : Book) (shut : Shut) : Type 0 where
   pub left : new.left ≡ old.left
-  pub given : new.given ≡ old.given
-  pub closed : new.closed ≡ old.closed ++ shut ∷ []
+  pub passed : new.passed ≡ old.passed ++ Took shut ∷ []
 
 abbrev pub Shuts : Option Book → Option Book → Shut → Type 0
 Shuts (Some old) (Some new) shut = ShutsIn old new shut

@@ -31,15 +31,15 @@ abbrev pub IsAllOf : {A : Type 0} → Option (List A) → List A → Type 0
 IsAllOf None all = Unit {0}
 IsAllOf (Some told) all = told ≡ all
 
-abbrev pub HasGivenNone : Option Book → Type 0
-HasGivenNone None = Unit {0}
-HasGivenNone (Some book) = (book.given ≡ []) × (book.closed ≡ [])
+abbrev pub HasPassedNothing : Option Book → Type 0
+HasPassedNothing None = Unit {0}
+HasPassedNothing (Some book) = book.passed ≡ []
 
 -- a new worker: its door has counted no fault, and given and closed no connection; its gate has made no exchange, and its
 -- clock has given no moment
 pub record IsNew (tells : Tellings) : Type 0 where
   pub faults : tells.faults ≡ 0
-  pub book : HasGivenNone tells.book
+  pub book : HasPassedNothing tells.book
   pub exchanges : IsAllOf tells.exchanges []
   pub moments : IsAllOf tells.moments []
 

@@ -1,5 +1,5 @@
 -- Connections that are served one after the other.
-use Rattle.std.specs.Prelude.{◌≡◌, ℕ, ◌≤◌, List, [], ◌++◌, All, map, None, Some}
+use Rattle.std.specs.Prelude.{◌≡◌, ℕ, ◌≤◌, List, [], ◌∷◌, ◌++◌, All, map, None, Some}
 use Rattle.std.specs.List.{flat_map}
 use Rattle.std.specs.declared.option.Option.{Option}
 use Rattle.std.specs.Io.KnownBytes.{Appends, Consumes}
@@ -16,7 +16,7 @@ use Rattle.session.specs.declared.ending.Ending.{Ending}
 use Rattle.session.specs.declared.ending.Ending.TheVariants as ending
 use Rattle.session.specs.declared.settings.Settings.{Settings}
 use Rattle.upstream_gate.specs.Outcome.{Exchange}
-use Rattle.doors.specs.Door.{Book, Given, Shut}
+use Rattle.doors.specs.Door.{Book, Gave, Given, Passed, Shut, Took}
 use Rattle.doors.specs.declared.serve.DoorEnd.{DoorEnd}
 use Rattle.doors.specs.declared.serve.DoorEnd.TheVariants as door_end
 use Rattle.doors.specs.declared.serve.Step.{Step}
@@ -55,14 +55,15 @@ exchanges_of v = v.doing.exchanges
 abbrev pub given_of : Visit → Given
 given_of v = v.given
 
-abbrev pub shut_of : Visit → Shut
-shut_of v = v.shut
+-- what passes at the door: the connection is given, and closed before anything else passes
+abbrev pub passed_of : Visit → List Passed
+passed_of v = Gave v.given ∷ Took v.shut ∷ []
 
--- where the door tells, these connections were the next ones that it had left, and were given and closed in this order
+-- where the door tells, these connections were the next ones that it had left, and each was given and then closed before
+-- the next one was given
 pub record VisitedIn (old new : Book) (visits : List Visit) : Type 0 where
   pub left : old.left ≡ map given_of visits ++ new.left
-  pub given : new.given ≡ old.given ++ map given_of visits
-  pub closed : new.closed ≡ old.closed ++ map shut_of visits
+  pub passed : new.passed ≡ old.passed ++ flat_map passed_of visits
 
 abbrev pub Visited : Option Book → Option Book → List Visit → Type 0
 Visited (Some old) (Some new) visits = VisitedIn old new visits

@@ -14,7 +14,7 @@ mod tests;
 
 pub use address::read_address;
 pub use door::{Accepted, Door};
-pub use memory_door::{Connection, ConnectionList, Ends, MemoryDoor};
+pub use memory_door::{Connection, ConnectionList, Ends, MemoryDoor, Passage};
 pub use memory_outside::{MemoryOutside, MemoryWorker, WorkerList};
 pub use outside::{Outside, OutsideFault, Worker};
 pub use serve::{DoorEnd, serve_door};

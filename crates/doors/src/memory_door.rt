@@ -1,8 +1,9 @@
 //! A door in memory.
 
 ghost use Rattle.std.specs.Prelude.{◌≡◌, ◌++◌, [], ◌∷◌, ◌<◌, All, IfNone, IfOk, IfSome, map, reverse, true};
-ghost use Rattle.std.specs.Vec.{vec_len};
-ghost use Rattle.doors.specs.MemoryDoor.{AcceptsNext, ClosesEnds, Hall, IsUnhurt};
+ghost use Rattle.std.specs.Vec.{vec_capacity, vec_len};
+ghost use Rattle.doors.specs.Door.{Gave};
+ghost use Rattle.doors.specs.MemoryDoor.{AcceptsNext, ClosesEnds, Hall, IsUnhurt, given_at, passed_at};
 
 use crate::door::{Accepted, Door};
 use edge_base::{MemorySink, MemorySource};
@@ -32,23 +33,33 @@ pub struct Ends {
     pub sink: MemorySink,
 }
 
-/// A door that gives given connections in order, and fails at given calls. It tells what it has left, what it gave and
-/// what was closed, unless it finds no memory to remember ends that are closed: from then on it tells no more.
+/// What passed at a door in memory.
+#[derive(Drop)]
+pub enum Passage {
+    /// A connection was given, remembered as it was then.
+    Gave(Snapshot<Connection>),
+    /// A connection was closed, with these ends.
+    Took(Ends),
+}
+
+/// A door that gives given connections in order, and fails at given calls. It tells what it has left and what passed,
+/// unless it finds no memory to remember ends that are closed: from then on it tells no more. For each connection that it
+/// gives it has room to remember how it is closed.
 #[derive(Drop)]
 pub struct MemoryDoor {
     // the next connection last
     left: Vec<Connection>,
     fails: Vec<u64>,
     calls: u64,
-    given: Vec<Snapshot<Connection>>,
-    closed: Vec<Ends>,
+    passed: Vec<Passage>,
     telling: bool,
     faults: u64,
 }
 
 impl Model for MemoryDoor {
-    ghost use Rattle.std.specs.Prelude.{All, map, reverse};
-    ghost use Rattle.doors.specs.MemoryDoor.{Hall, IsUnhurt};
+    ghost use Rattle.std.specs.Prelude.{All, map, reverse, ◌-◌};
+    ghost use Rattle.std.specs.Vec.{vec_capacity, vec_len};
+    ghost use Rattle.doors.specs.MemoryDoor.{Hall, IsUnhurt, passed_at};
 
     ghost Value = { Hall };
 
@@ -56,8 +67,8 @@ impl Model for MemoryDoor {
       left = reverse d.left.items;
       fails = d.fails.items;
       calls = d.calls;
-      given = map (λ remembered. remembered.value) d.given.items;
-      closed = d.closed.items;
+      passed = map passed_at d.passed.items;
+      room = vec_capacity d.passed - vec_len d.passed;
       telling = d.telling;
       faults = d.faults;
     } };
@@ -81,8 +92,8 @@ impl MemoryDoor {
           left = given;
           fails = fails.now;
           calls = 0;
-          given = [];
-          closed = [];
+          passed = [];
+          room = 0;
           telling = true;
           faults = 0;
         }) }
@@ -93,18 +104,17 @@ impl MemoryDoor {
             left,
             fails,
             calls: 0,
-            given: Vec::new(alloc),
-            closed: Vec::new(alloc),
+            passed: Vec::new(alloc),
             telling: true,
             faults: 0,
         })
     }
 
-    /// The ends of the connections that were closed, in order.
-    pub fn closed(&self) -> &[Ends]
-        ensures { result.now ≡ self.now.closed }
+    /// What passed, in order, as far as it is remembered.
+    pub fn passed(&self) -> &[Passage]
+        ensures { map passed_at result.now ≡ self.now.passed }
     {
-        &self.closed
+        &self.passed
     }
 
     /// How many of its calls failed, up to 2^64 - 1.
@@ -127,22 +137,21 @@ pub(crate) fn turned<T: Drop>(alloc: Global, items: Listing<T>) -> Result<Vec<T>
     Ok(turned)
 }
 
-// takes the last connection and remembers it; none for want of memory
-fn take_last(
-    left: &mut Vec<Connection>,
-    given: &mut Vec<Snapshot<Connection>>,
-) -> Option<Connection>
+// takes the last connection and remembers it, with room for one thing more; none for want of memory
+fn take_last(left: &mut Vec<Connection>, passed: &mut Vec<Passage>) -> Option<Connection>
     requires { 0 < vec_len left.old }
     ensures taken { IfSome result (λ c. left.old.items ≡ left.new.items ++ c ∷ []) }
-    ensures remembered { IfSome result (λ c. map (λ r. r.value) given.new.items ≡ map (λ r. r.value) given.old.items ++ c ∷ []) }
+    ensures remembered { IfSome result (λ c. map passed_at passed.new.items
+        ≡ map passed_at passed.old.items ++ Gave (given_at c) ∷ []) }
+    ensures room { IfSome result (λ _. vec_len passed.new < vec_capacity passed.new) }
     ensures left { IfNone result (left.new.items ≡ left.old.items) }
-    ensures given { IfNone result (given.new.items ≡ given.old.items) }
+    ensures passed { IfNone result (passed.new.items ≡ passed.old.items) }
 {
-    if given.reserve(1).is_err() {
+    if passed.reserve(2).is_err() {
         return None;
     }
     let connection = left.pop()?;
-    match given.push(Snapshot::of(&connection)) {
+    match passed.push(Passage::Gave(Snapshot::of(&connection))) {
         Ok(()) => Some(connection),
         Err(_) => unreachable!(),
     }
@@ -183,10 +192,7 @@ impl Door for MemoryDoor {
             self.faults = self.faults.saturating_add(1);
             return Accepted::Failed;
         }
-        if self.closed.reserve(1).is_err() {
-            return Accepted::Memory;
-        }
-        let Some(connection) = take_last(&mut self.left, &mut self.given) else {
+        let Some(connection) = take_last(&mut self.left, &mut self.passed) else {
             return Accepted::Memory;
         };
         Accepted::One {
@@ -202,7 +208,10 @@ impl Door for MemoryDoor {
         ensures book { Shuts (book_of self.old) (book_of self.new) (shut_at (record { source = source; sink = sink })) }
         ensures later { self.old.faults ≤ self.new.faults }
     {
-        let kept = self.closed.push(Ends { source, sink }).is_ok();
+        let kept = self
+            .passed
+            .push(Passage::Took(Ends { source, sink }))
+            .is_ok();
         self.telling = self.telling && kept;
     }
 }

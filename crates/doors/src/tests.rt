@@ -1,5 +1,5 @@
 // What no clause says: that a connection is served where there is memory.
-use crate::{Connection, ConnectionList, DoorEnd, MemoryDoor, Worker, serve_door};
+use crate::{Connection, ConnectionList, DoorEnd, MemoryDoor, Passage, Worker, serve_door};
 use cdni_base::{Body, Endpoint, Limits, Protocol, ProviderId, Target, Text, TypeName};
 use edge_base::{ListClock, MemorySink, MemorySource};
 use location_acl::{Ip, PlaceTable};
@@ -93,9 +93,12 @@ fn a_connection_is_served(rt: HostRuntime) -> Result<(), Fail> {
     let mut worker = worker(alloc)?;
     let end = served(&rt, alloc, &mut worker, &places, &settings)?;
     assert_eq!(rt; end, DoorEnd::Closed);
-    let closed = worker.door.closed();
-    assert_eq!(rt; closed.len(), 1);
-    assert!(rt; closed[0].sink.held().starts_with(b"HTTP/1.1 200 OK\r\n"));
-    assert!(rt; closed[0].sink.held().ends_with(b"\r\n\r\nhello"));
+    let passed = worker.door.passed();
+    assert_eq!(rt; passed.len(), 2);
+    let Passage::Took(ends) = &passed[1] else {
+        return Err(Fail::from("a connection that was closed"));
+    };
+    assert!(rt; ends.sink.held().starts_with(b"HTTP/1.1 200 OK\r\n"));
+    assert!(rt; ends.sink.held().ends_with(b"\r\n\r\nhello"));
     Ok(())
 }

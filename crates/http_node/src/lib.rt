@@ -10,7 +10,7 @@ mod tests;
 pub use batch::batch_main;
 pub use doors::{
     Accepted, Connection, ConnectionList, Door, DoorEnd, MemoryDoor, MemoryOutside, MemoryWorker,
-    Outside, OutsideFault, Worker, WorkerList, serve_door,
+    Outside, OutsideFault, Passage, Worker, WorkerList, serve_door,
 };
 pub use note::note_status;
 pub use serve::serve_main;

@@ -3,8 +3,8 @@ ghost use Rattle.std.specs.Prelude.{◌≡◌, [], true, IfOk};
 ghost use Rattle.doors.specs.MemoryOutside.{IsFresh};
 
 use crate::{
-    Connection, ConnectionList, MemoryDoor, MemoryOutside, MemoryWorker, Worker, WorkerList,
-    serve_main,
+    Connection, ConnectionList, MemoryDoor, MemoryOutside, MemoryWorker, Passage, Worker,
+    WorkerList, serve_main,
 };
 use cdni_base::{Body, TypeName};
 use edge_base::{ListClock, MemorySink, MemorySource, Status};
@@ -30,8 +30,7 @@ fn got(alloc: Global, kind: &[u8], body: &[u8]) -> Result<Outcome, Fail> {
 
 fn door(alloc: Global) -> Result<MemoryDoor, Fail>
     ensures faults { IfOk result (λ d. d.faults ≡ 0) }
-    ensures given { IfOk result (λ d. d.given ≡ []) }
-    ensures closed { IfOk result (λ d. d.closed ≡ []) }
+    ensures passed { IfOk result (λ d. d.passed ≡ []) }
     ensures telling { IfOk result (λ d. d.telling ≡ true) }
 {
     let mut given = ConnectionList::new(alloc);
@@ -77,9 +76,12 @@ fn a_worker_serves_and_is_given_back(rt: HostRuntime) -> Result<(), Fail> {
     assert_eq!(rt; notes.held(), b"".as_slice());
     let back = outside.back();
     assert_eq!(rt; back.len(), 1);
-    let closed = back[0].door.closed();
-    assert_eq!(rt; closed.len(), 1);
-    assert!(rt; closed[0].sink.held().starts_with(b"HTTP/1.1 200 OK\r\n"));
-    assert!(rt; closed[0].sink.held().ends_with(b"\r\n\r\nhello"));
+    let passed = back[0].door.passed();
+    assert_eq!(rt; passed.len(), 2);
+    let Passage::Took(ends) = &passed[1] else {
+        return Err(Fail::from("a connection that was closed"));
+    };
+    assert!(rt; ends.sink.held().starts_with(b"HTTP/1.1 200 OK\r\n"));
+    assert!(rt; ends.sink.held().ends_with(b"\r\n\r\nhello"));
     Ok(())
 }

@@ -15,7 +15,7 @@ use std::test::Fail;
 use std::thread::{Threads, join};
 use std::time::Duration;
 use std::{io, thread, time};
-use tcp_door::{StdOutside, WAITS};
+use tcp_door::{StdOutside, WAITS, Waits};
 use upstream_gate::Gate;
 
 const GET: &[u8] = b"GET /a HTTP/1.1\r\nHost: v.example\r\n\r\n";
@@ -24,8 +24,55 @@ const LAST: &[u8] = b"GET /a HTTP/1.1\r\nHost: v.example\r\nConnection: close\r\
 
 const BODY: &[u8] = b"0123456789";
 
-// how many connections the worker serves
-const CONNECTIONS: u64 = 8;
+// the length of the content at `/large`
+const LARGE: usize = 1_000_000;
+
+// how long things may take where clients are slow
+const SHORT: Waits = Waits {
+    idle: 5_000,
+    head: 2_000,
+    floor: 1_000,
+    step: 1,
+    linger: 500,
+    connect: 1_000,
+    quiet: 2_000,
+    tick: 50,
+};
+
+// who connects
+#[derive(Clone, Copy)]
+enum Crowd {
+    // kept, pipelined, in pieces, half closed, no heads, a large body, and a hundred that say nothing
+    Mixed,
+    // a slow body, and one that does not read
+    Slow,
+    // one by IPv6
+    Six,
+}
+
+// what came of a crowd: how the serving ended, how many of its clients got what they waited for, how many requests the
+// origin got, and the faults of the door, of the gate and of the outside
+#[derive(Clone, Copy, Debug, PartialEq, Eq)]
+struct Served {
+    end: DoorEnd,
+    good: u64,
+    asked: u64,
+    door_faults: u64,
+    gate_faults: u64,
+    faults: u64,
+}
+
+// served without a fault
+const fn well(good: u64, asked: u64) -> Served {
+    Served {
+        end: DoorEnd::Served,
+        good,
+        asked,
+        door_faults: 0,
+        gate_faults: 0,
+        faults: 0,
+    }
+}
 
 // a connection to the address, whose reads wait for two seconds
 fn dial<N: Net<Stream = TcpStream>>(net: &N, addr: SocketAddr) -> io::Result<TcpStream> {
@@ -87,6 +134,9 @@ fn gets(stream: &TcpStream, alloc: Global) -> u64 {
 // an origin that answers each request, until a connection brings none; how many it answered
 fn origin(alloc: Global, listener: &TcpListener, document: &[u8]) -> io::Result<u64> {
     let mut count = 0u64;
+    let mut large = Vec::new(alloc);
+    large.resize(LARGE, 98u8)?;
+    let large = large.as_slice();
     for _ in 0..1_000 {
         let (stream, _) = listener.accept()?;
         stream.set_read_timeout(Some(Duration::from_millis(2_000)))?;
@@ -97,6 +147,8 @@ fn origin(alloc: Global, listener: &TcpListener, document: &[u8]) -> io::Result<
         count = count.saturating_add(1);
         let body = if head.as_slice().starts_with(b"GET /i ") {
             document
+        } else if head.as_slice().starts_with(b"GET /large ") {
+            large
         } else {
             BODY
         };
@@ -135,9 +187,10 @@ fn serve<R: Threads + Wait + Sync, N: Net<Stream = TcpStream>, D: Door, G: Gate,
     places: &PlaceTable,
     settings: &Settings,
     origin: SocketAddr,
+    connections: u64,
     ended: &AtomicU64,
 ) -> DoorEnd {
-    let end = serve_door(rt, alloc, home, worker, places, settings, Some(CONNECTIONS));
+    let end = serve_door(rt, alloc, home, worker, places, settings, Some(connections));
     ended.store(1, Ordering::SeqCst);
     drop(dial(net, origin));
     end
@@ -208,6 +261,73 @@ fn odd_clients<N: Net<Stream = TcpStream> + time::Clock>(
     Ok(good)
 }
 
+// how many bytes come until the end, or until nothing comes for two seconds
+fn hear_all(stream: &TcpStream) -> u64 {
+    let mut count = 0u64;
+    let mut piece = [0u8; 4096];
+    let mut from = stream;
+    for _ in 0..1_000_000 {
+        match from.read(&mut piece) {
+            Ok(0) => return count,
+            Ok(more) => count = count.saturating_add(more as u64),
+            Err(_) => return count,
+        }
+    }
+    count
+}
+
+// a body that comes a byte every ten milliseconds, a client that asks for much and does not read, and one that reads
+fn slow_clients<N: Net<Stream = TcpStream> + time::Clock>(
+    net: &N,
+    alloc: Global,
+    addr: SocketAddr,
+) -> io::Result<u64> {
+    let mut good = 0u64;
+    let slow = dial(net, addr)?;
+    say(
+        &slow,
+        b"POST /a HTTP/1.1\r\nHost: v.example\r\nContent-Length: 100000\r\n\r\n",
+    )?;
+    for _ in 0..500 {
+        if say(&slow, b"a").is_err() {
+            good = good.saturating_add(1);
+            break;
+        }
+        thread::sleep(net, Duration::from_millis(10));
+    }
+    drop(slow);
+    let deaf = dial(net, addr)?;
+    for _ in 0..30 {
+        say(&deaf, b"GET /large HTTP/1.1\r\nHost: v.example\r\n\r\n")?;
+    }
+    thread::sleep(net, Duration::from_millis(3_000));
+    let heard = hear_all(&deaf);
+    good = good.saturating_add(u64::from(heard > 0 && heard < 30 * LARGE as u64));
+    drop(deaf);
+    let fast = dial(net, addr)?;
+    say(
+        &fast,
+        b"GET /large HTTP/1.1\r\nHost: v.example\r\nConnection: close\r\n\r\n",
+    )?;
+    let head = hear_head(&fast, alloc)?;
+    let heard = hear_all(&fast);
+    good = good.saturating_add(u64::from(
+        head.as_slice().starts_with(b"HTTP/1.1 200 OK\r\n") && heard == LARGE as u64,
+    ));
+    Ok(good)
+}
+
+// one request over IPv6
+fn six_clients<N: Net<Stream = TcpStream>>(
+    net: &N,
+    alloc: Global,
+    addr: SocketAddr,
+) -> io::Result<u64> {
+    let six = dial(net, addr)?;
+    say(&six, LAST)?;
+    Ok(u64::from(addr.is_ipv6()).saturating_add(gets(&six, alloc)))
+}
+
 // asks over new connections until the worker has served enough
 fn more_clients<N: Net<Stream = TcpStream>>(
     net: &N,
@@ -226,74 +346,124 @@ fn more_clients<N: Net<Stream = TcpStream>>(
     Ok(())
 }
 
-// all of these; how many got what they asked for
+// the clients of this crowd; how many got what they asked for
 fn clients<N: Net<Stream = TcpStream> + time::Clock>(
     net: &N,
     alloc: Global,
     addr: SocketAddr,
+    crowd: Crowd,
     ended: &AtomicU64,
 ) -> u64 {
-    let kept = kept_client(net, alloc, addr).unwrap_or(0);
-    let odd = odd_clients(net, alloc, addr).unwrap_or(0);
+    let good = match crowd {
+        Crowd::Mixed => {
+            let kept = kept_client(net, alloc, addr).unwrap_or(0);
+            kept.saturating_add(odd_clients(net, alloc, addr).unwrap_or(0))
+        }
+        Crowd::Slow => slow_clients(net, alloc, addr).unwrap_or(0),
+        Crowd::Six => six_clients(net, alloc, addr).unwrap_or(0),
+    };
     let _ = more_clients(net, alloc, addr, ended);
-    kept.saturating_add(odd)
+    good
 }
 
-#[test]
-fn a_node_serves_clients_over_tcp(rt: HostRuntime) -> Result<(), Fail> {
-    let alloc = rt.alloc();
-    let listener = TcpListener::bind(&rt, "127.0.0.1:0")?;
-    let from = listener.local_addr()?;
-    let port = from.port();
-    let document = format!(in alloc;
+// the metadata of a node whose content is at this port
+fn document_of(alloc: Global, port: u16) -> Result<String, Fail> {
+    Ok(format!(in alloc;
         "{{\"hosts\":[{{\"host\":\"v.example\",\"host-metadata\":{{\"metadata\":[{{\"generic-metadata-type\":\"MI.SourceMetadata\",\"generic-metadata-value\":{{\"sources\":[{{\"endpoints\":[\"127.0.0.1:{port}\"],\"protocol\":\"http/1.1\"}}]}}}}]}}}}]}}"
-    )?;
+    )?)
+}
+
+// a home over a node of its own
+fn home(alloc: Global) -> Result<OneHome, Fail> {
+    let origin = Text::of(alloc, b"dcdn.example")?;
+    let node = Node::new(alloc, &Limits::standard(), origin)?;
+    Ok(OneHome { node, number: 0 })
+}
+
+// serves so many connections, of which a crowd makes the first, over a door at this address
+fn serve_crowd<
+    R: Threads
+        + Wait
+        + Sync
+        + Net<Listener = TcpListener, Stream = TcpStream>
+        + time::Clock
+        + Clone
+        + Send
+        + Drop,
+>(
+    rt: &R,
+    alloc: Global,
+    waits: Waits,
+    at: &[u8],
+    crowd: Crowd,
+    connections: u64,
+) -> Result<Served, Fail> {
+    let listener = TcpListener::bind(rt, "127.0.0.1:0")?;
+    let from = listener.local_addr()?;
+    let document = document_of(alloc, from.port())?;
     let document = document.as_bytes();
     let settings = settings_of(alloc, from)?;
     let places = PlaceTable::read(alloc, b"").ok().ok_or("places")?;
-    let node = Node::new(
-        alloc,
-        &Limits::standard(),
-        Text::of(alloc, b"dcdn.example")?,
-    )?;
-    let mut home = OneHome { node, number: 0 };
-    let mut outside = StdOutside::new(rt.clone()?, WAITS);
-    outside
-        .listen(&rt, alloc, b"127.0.0.1:0")
-        .ok()
-        .ok_or("listen")?;
+    let mut home = home(alloc)?;
+    let mut outside = StdOutside::new(rt.clone()?, waits);
+    outside.listen(rt, alloc, at).ok().ok_or("listen")?;
     let addr = outside.local_addr().ok_or("address")?;
-    let mut worker = outside.worker(&rt, alloc).ok().ok_or("worker")?;
+    let mut worker = outside.worker(rt, alloc).ok().ok_or("worker")?;
     let ended = AtomicU64::new(0);
     let (good, (asked, end)) = join(
-        &rt,
-        || clients(&rt, alloc, addr, &ended),
+        rt,
+        || clients(rt, alloc, addr, crowd, &ended),
         || {
             join(
-                &rt,
+                rt,
                 || origin(alloc, &listener, document).unwrap_or(0),
                 || {
                     serve(
-                        &rt,
-                        &rt,
+                        rt,
+                        rt,
                         alloc,
                         &mut home,
                         &mut worker,
                         &places,
                         &settings,
                         from,
+                        connections,
                         &ended,
                     )
                 },
             )
         },
     );
-    assert_eq!(rt; end, DoorEnd::Served);
-    assert_eq!(rt; good, 12);
-    assert_eq!(rt; asked, 2);
-    assert_eq!(rt; worker.door.faults(), 0);
-    assert_eq!(rt; worker.gate.faults(), 0);
+    let door_faults = worker.door.faults();
+    let gate_faults = worker.gate.faults();
     outside.give_back(worker);
-    assert_eq!(rt; outside.faults(), 0);
+    Ok(Served {
+        end,
+        good,
+        asked,
+        door_faults,
+        gate_faults,
+        faults: outside.faults(),
+    })
+}
+
+#[test]
+fn a_node_serves_clients_over_tcp(rt: HostRuntime) -> Result<(), Fail> {
+    let served = serve_crowd(&rt, rt.alloc(), WAITS, b"127.0.0.1:0", Crowd::Mixed, 8)?;
+    assert_eq!(rt; served, well(12, 2));
+    Ok(())
+}
+
+#[test]
+fn slow_clients_are_given_up(rt: HostRuntime) -> Result<(), Fail> {
+    let served = serve_crowd(&rt, rt.alloc(), SHORT, b"127.0.0.1:0", Crowd::Slow, 4)?;
+    assert_eq!(rt; served, well(3, 3));
+    Ok(())
+}
+
+#[test]
+fn a_client_is_served_over_ipv6(rt: HostRuntime) -> Result<(), Fail> {
+    let served = serve_crowd(&rt, rt.alloc(), WAITS, b"[::1]:0", Crowd::Six, 1)?;
+    assert_eq!(rt; served, well(2, 2));
     Ok(())
 }

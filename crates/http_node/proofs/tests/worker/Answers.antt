@@ -3,5 +3,5 @@ use Rattle.http_node.proofs.tests.worker.Goals as goal
 
 pub returns : goal.returns
 returns c =
-    is_fresh (record { door = c.in_ok-door.door; gate = c.in_ok-gate.gate; clock = c.in_ok-clock.clock }) _ _ c.in_ok-door.ensures.faults c.in_ok-door.ensures.given c.in_ok-door.ensures.closed c.in_ok-door.ensures.telling
+    is_fresh (record { door = c.in_ok-door.door; gate = c.in_ok-gate.gate; clock = c.in_ok-clock.clock }) _ _ c.in_ok-door.ensures.faults c.in_ok-door.ensures.passed c.in_ok-door.ensures.telling
     c.in_ok-gate.ensures c.in_ok-clock.ensures

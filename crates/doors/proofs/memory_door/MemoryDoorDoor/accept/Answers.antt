@@ -15,14 +15,6 @@ returns-then-contains-clause-next g c =
       refl,
     )
 
-pub returns-then-is_err-clause-next : goal.returns-then-is_err-clause-next
-returns-then-is_err-clause-next g c =
-    rw (← c.self.view_is, c.reserve.ensures.items, c.saturating_add-self-inside.ensures) (
-      some_left c.self.inside.left.items (search rules),
-      sym (rw (c.deref.ensures.value, c.saturating_add-self-inside.ensures) at c.contains.ensures.value) ∙ c.if-contains.false,
-      refl,
-    )
-
 pub invariant_of-self-2 : goal.invariant_of-self-2
 invariant_of-self-2 g c = rest_all IsUnhurt _ _ _ c.self.invariant (next_left _ _ _ c.in-Some.ensures.taken)
 

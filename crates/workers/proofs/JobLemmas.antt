@@ -5,8 +5,8 @@ use Rattle.std.specs.List.{flat_map}
 use Rattle.std.specs.declared.option.Option.{Option}
 use Rattle.atomic_table.specs.Seated.{TableId}
 use Rattle.doors.specs.Door.{Book}
-use Rattle.doors.specs.Outside.{HasGivenNone, IsAllOf, IsNew, Tellings}
-use Rattle.doors.specs.Visit.{Visit, Visited, calls_of, given_of, shut_of}
+use Rattle.doors.specs.Outside.{HasPassedNothing, IsAllOf, IsNew, Tellings}
+use Rattle.doors.specs.Visit.{Visit, Visited, calls_of, passed_of}
 use Rattle.edge_base.specs.Clock.{Grows}
 use Rattle.history.specs.Event.{History}
 use Rattle.history.specs.World.{Made}
@@ -35,11 +35,11 @@ all_of None (Some new) more none grows = elim grows [ ]
 all_of (Some old) None more none grows = tt
 all_of (Some old) (Some new) more none grows = grows ∙ ap (λ l. l ++ more) none
 
-book_of : (old new : Option Book) (visits : List Visit) → HasGivenNone old → Visited old new visits → IsBookOf new visits
+book_of : (old new : Option Book) (visits : List Visit) → HasPassedNothing old → Visited old new visits → IsBookOf new visits
 book_of None None visits none visited = tt
 book_of None (Some new) visits none visited = elim visited [ ]
 book_of (Some old) None visits none visited = tt
-book_of (Some old) (Some new) visits none visited = (visited.given ∙ ap (λ l. l ++ map given_of visits) none.0, visited.closed ∙ ap (λ l. l ++ map shut_of visits) none.1)
+book_of (Some old) (Some new) visits none visited = visited.passed ∙ ap (λ l. l ++ flat_map passed_of visits) none
 
 -- the shift of a worker that had not begun
 pub shift_of : (by : Made) (crew : Crew) (old new : Post) → Worked by crew old new → Shift

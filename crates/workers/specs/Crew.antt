@@ -5,7 +5,7 @@ use Rattle.std.specs.declared.option.Option.{Option}
 use Rattle.doors.specs.Door.{Book}
 use Rattle.doors.specs.Ended.{EndsItsOwn}
 use Rattle.doors.specs.Outside.{Asked, Diary, DiaryGrows, Hired, IsAllOf, IsNew, Tellings}
-use Rattle.doors.specs.Visit.{IsEndOf, IsVisit, Visit, calls_of, exchanges_of, given_of, moments_of, shut_of}
+use Rattle.doors.specs.Visit.{IsEndOf, IsVisit, Visit, calls_of, exchanges_of, moments_of, passed_of}
 use Rattle.doors.specs.declared.outside.OutsideFault.{OutsideFault}
 use Rattle.doors.specs.declared.outside.OutsideFault.TheVariants as fault
 use Rattle.doors.specs.declared.serve.DoorEnd.{DoorEnd}
@@ -30,10 +30,10 @@ pub record Shift : Type 0 where
   pub visits : List Visit
   pub end : DoorEnd
 
--- where the door tells, these are all connections that it gave, and as such they were closed
+-- where the door tells, this is all that passed: each connection was given, and closed before the next one was given
 abbrev pub IsBookOf : Option Book → List Visit → Type 0
 IsBookOf None visits = Unit {0}
-IsBookOf (Some book) visits = (book.given ≡ map given_of visits) × (book.closed ≡ map shut_of visits)
+IsBookOf (Some book) visits = book.passed ≡ flat_map passed_of visits
 
 -- This is what a worker tells of the shift: each connection was served by a session; the gate's exchanges and the clock's
 -- moments are those of the sessions and no others.

@@ -73,12 +73,12 @@ pub(crate) fn put_serve_note(out: &mut Scratch, end: ServeEnd)
     }
 }
 
-fn put_bad_place(out: &mut Scratch, line: u64)
+fn put_bad_place(out: &mut Scratch, number: u64)
     requires { out.old ≡ record { text = []; room = NOTE_ROOM } }
-    ensures { out.new.text ≡ bad_place_text line }
+    ensures { out.new.text ≡ bad_place_text number }
 {
     put(out, b"places line ");
-    put_number(out, line);
+    put_number(out, number);
     put(out, b"\n");
 }
 

@@ -39,7 +39,7 @@ keeps : IsAlwaysLawful → (by : Made) (h : History) → KeepsTheLaw by h
 keeps law by h at entry answer a = law by a.before entry.0 entry.1 answer (sym a.answered)
 
 all_end : EndsVisits → (by : Made) (crew : Crew) (number : ℕ) (shifts : List Shift) (back : List Tellings) (h : History) → AreShifts crew.settings crew.places crew.connections shifts back → AllTold by number (map shift_calls shifts) h → AllEnd by number (map shift_calls shifts) h
-unfolding AllTold, AllEnd
+unfolding AllTold AllEnd
 all_end ends by crew number [] back h tell told = tt
 all_end ends by crew number (shift ∷ shifts) [] h tell told = elim tell [ ]
 all_end ends by crew number (shift ∷ shifts) (tells ∷ back) h tell told = (

@@ -4,6 +4,7 @@ use Rattle.std.proofs.lemmas.List.{length-map}
 use Rattle.std.proofs.lemmas.List.{map-append}
 use Rattle.std.proofs.lemmas.List.Elements.{All-nil, All-cons, All-head, All-tail}
 use Rattle.std.proofs.lemmas.List.Sums.{fold-append}
+use Rattle.std.specs.Prelude.{IfSome}
 use Rattle.std.specs.declared.option.Option.{Option}
 use Rattle.atomic_table.specs.Seated.{TableId}
 use Rattle.doors.specs.Outside.{Diary, DiaryGrows, Tellings}
@@ -24,10 +25,10 @@ use Rattle.turn_cell.specs.Cell.{IsResting, SitsAt, numbers_in, numbers_of, seen
 use Rattle.turn_cell.specs.History.{AllBelow, FollowedByOthers, NoneOf, numbers_from}
 use Rattle.turn_cell.specs.declared.pass.Pass.{Pass}
 use Rattle.turn_cell.specs.declared.view.View.{View}
-use Rattle.workers.proofs.HiringLemmas.{diary_then, gave_more}
+use Rattle.workers.proofs.HiringLemmas.{diary_same, diary_then, gave_more, none_left}
 use Rattle.workers.specs.Crew.{AllTold, AreShifts, GaveBack, IsShift, Shift, after_end, shift_calls, status_of}
 use Rattle.workers.specs.Finishing.{Finished, TakesIn}
-use Rattle.workers.specs.Job.{DoneFrom, IsDone, Post}
+use Rattle.workers.specs.Job.{DoneFrom, IsDone, IsInCell, Post}
 use Rattle.workers.specs.declared.crew.Crew.{Crew}
 
 -- ---- what a pass has seen is told behind others' entries too
@@ -43,15 +44,15 @@ others_then : (number : ℕ) (a b : History) → AreOthers number a → AreOther
 others_then number [] b p q = q
 others_then number (entry ∷ a) b p q = (p.0, others_then number a b p.1 q)
 
-told_then : (who : Who) (h : History) (calls : List Called) (last others : History) → AreOthers who.number others → Told who h calls last → Told who h calls (last ++ others)
-told_then who h [] last others are told = (told.0 ++ others, others_then who.number told.0 others told.1 are, ap (λ l. l ++ others) told.2 ∙ append_assoc h told.0 others)
-told_then who h (call ∷ calls) last others are told = (told.0, told.1, told.2, told_then who _ calls last others are told.3)
+told_then : (who : Who) (calls : List Called) (h last others : History) → AreOthers who.number others → Told who h calls last → Told who h calls (last ++ others)
+told_then who [] h last others are told = (told.0 ++ others, others_then who.number told.0 others told.1 are, ap (λ l. l ++ others) told.2 ∙ append_assoc h told.0 others)
+told_then who (call ∷ calls) h last others are told = (told.0, told.1, told.2, told_then who calls _ last others are told.3)
 
 told_later : (by : Made) (number : ℕ) (calls : List Called) (numbers : List ℕ) (seen seen' : List (ℕ × Call)) → Contains numbers number → FollowedByOthers numbers seen seen' → Told (record { made = by; number = number }) [] calls (history_of seen)
     → Told (record { made = by; number = number }) [] calls (history_of seen')
 told_later by number calls numbers seen seen' own goes told =
     subst (λ h. Told (record { made = by; number = number }) [] calls h) (sym (ap history_of goes.1 ∙ map-append entry_of seen goes.0))
-    (told_then (record { made = by; number = number }) [] calls (history_of seen) (history_of goes.0) (others_apart numbers number own goes.0 goes.2) told)
+    (told_then (record { made = by; number = number }) calls [] (history_of seen) (history_of goes.0) (others_apart numbers number own goes.0 goes.2) told)
 
 all_later : (by : Made) (number : ℕ) (lists : List (List Called)) (numbers : List ℕ) (seen seen' : List (ℕ × Call)) → ((x : ℕ) → number ≤ x → x < number + length lists → Contains numbers x) → FollowedByOthers numbers seen seen' → AllTold by number lists (history_of seen)
     → AllTold by number lists (history_of seen')
@@ -96,7 +97,7 @@ next_kept : (by : Made) (crew : Crew) (table : TableId) (passes : ℕ) (before :
     → IsKeptOne by table passes (before ++ shift ∷ []) new
 next_kept by crew table passes before post shift old new kept done takes = record {
   sits = subst (λ t. SitsAt t passes new) done.cell.0 (subst (λ n. SitsAt post.home.table n new) done.cell.1 takes.0);
-  numbers = takes.1 ∙ (ap (λ l. l ++ post.home.numbers) kept.numbers ∙ (ap (λ l. numbers_from 0 (length before) ++ l) done.numbers ∙ (sym (numbers_from-push 0 (length before)) ∙ ap (numbers_from 0) (sym (length-append before (shift ∷ []))))));
+  numbers = takes.1 ∙ (ap (λ l. l ++ post.home.numbers) kept.numbers ∙ (ap (λ l. numbers_from 0 (length before) ++ l) done.numbers ∙ (ap (λ n. numbers_from 0 (length before) ++ n ∷ []) (let e : length before ≡ 0 + length before = omega arith in e) ∙ (sym (numbers_from-push 0 (length before)) ∙ ap (numbers_from 0) (sym (length-append before (shift ∷ [])))))));
   told = subst (λ l. AllTold by 0 l (history_of (seen_of new))) (sym (map-append shift_calls before (shift ∷ [])))
       (all_more by 0 (map shift_calls before) (shift_calls shift) (history_of (seen_of new)) later own);
 }
@@ -118,6 +119,17 @@ takes_kept by crew table passes before post shift None (Some new) kept done take
     subst (λ (l : List Shift). IsKeptOne by table passes (l ++ shift ∷ []) new) (sym kept)
     (first_kept by crew table passes post shift new (subst (λ (l : List Shift). IsDone by crew table passes (length l) post shift) kept done) takes)
 takes_kept by crew table passes before post shift (Some old) (Some new) kept done takes = next_kept by crew table passes before post shift old new kept done takes
+
+-- the pass that is kept takes in another one
+pub takes_both : (table : TableId) (passes : ℕ) (home : Standing) (old : Option (Pass Call)) (keep gone new : Pass Call) → old ≡ Some keep → home.table ≡ table → home.passes ≡ passes → SitsAt table passes new → numbers_of gone ≡ home.numbers → seen_of gone ≡ home.seen
+    → numbers_of new ≡ numbers_of keep ++ numbers_of gone → FollowedByOthers (numbers_of keep) (seen_of keep) (seen_of new) → FollowedByOthers (numbers_of gone) (seen_of gone) (seen_of new) → TakesIn home old (Some new)
+takes_both table passes home old keep gone new is same_table same_passes sits numbers seen both after_keep after_gone =
+    subst (λ (o : Option (Pass Call)). TakesIn home o (Some new)) (sym is) (
+      subst (λ t. SitsAt t home.passes new) (sym same_table) (subst (λ n. SitsAt table n new) (sym same_passes) sits),
+      both ∙ ap (λ l. numbers_of keep ++ l) numbers,
+      after_keep,
+      subst (λ l. FollowedByOthers l home.seen (seen_of new)) numbers (subst (λ (l : List (ℕ × Call)). FollowedByOthers (numbers_of gone) l (seen_of new)) seen after_gone),
+    )
 
 -- ---- the shifts so far
 
@@ -239,3 +251,31 @@ module _ (by : Made) (crew : Crew) (table : TableId) (passes : ℕ) (shifts : Li
         ends_so = so.ends_so ∙ ap status_of (sym whole);
         failed = so.failed;
       }
+
+-- ---- the loop over the workers
+
+module _ {X : Type 0} (f : X → Post) (table : TableId) (passes : ℕ) where
+  pub cell_next : (items rest : List X) (x : X) → items ≡ x ∷ rest → All (IsInCell table passes) (map f items) → IsInCell table passes (f x) × All (IsInCell table passes) (map f rest)
+  cell_next items rest x is all =
+      let here = subst (λ (l : List X). All (IsInCell table passes) (map f l)) is all in
+      (All-head (IsInCell table passes) (f x) (map f rest) here, All-tail (IsInCell table passes) (f x) (map f rest) here)
+
+  pub kept_next : (home : Standing) (old new : Option (Pass Call)) → TakesIn home old new → home.table ≡ table → home.passes ≡ passes → IfSome new (λ keep. SitsAt table passes keep)
+  kept_next home None None takes same_table same_passes = tt
+  kept_next home (Some old) None takes same_table same_passes = tt
+  kept_next home None (Some new) takes same_table same_passes = subst (λ t. SitsAt t passes new) same_table (subst (λ n. SitsAt home.table n new) same_passes takes.0)
+  kept_next home (Some old) (Some new) takes same_table same_passes = subst (λ t. SitsAt t passes new) same_table (subst (λ n. SitsAt home.table n new) same_passes takes.0)
+
+  module _ (by : Made) (crew : Crew) (shifts : List Shift) where
+    pub so_init : (all items : List X) (diary : Option Diary) (returned faults : ℕ) → items ≡ all → DoneFrom by crew table passes 0 (map f all) shifts → SoFar by crew table passes shifts (map f items) None diary diary returned returned faults faults status.Done
+    so_init all items diary returned faults is done = begins by crew table passes shifts (map f items) diary returned faults (diary_same diary) (subst (λ (l : List X). DoneFrom by crew table passes 0 (map f l) shifts) (sym is) done)
+
+    pub so_next : (items rest : List X) (x : X) (kept kept' : Option (Pass Call)) (d0 d1 d2 : Option Diary) (r0 r1 r2 f0 f1 f2 : ℕ) (earlier now : Status) → items ≡ x ∷ rest → SoFar by crew table passes shifts (map f items) kept d0 d1 r0 r1 f0 f1 earlier
+        → TakesIn (f x).home kept kept' → DiaryGrows d1 d2 [] ((f x).tells ∷ []) → r2 ≡ min (r1 + 1) (2 ^ 64 - 1) → f0 ≤ f1 → f1 ≤ f2 → (0 < (f x).tells.faults → Rose f1 f2) → now ≡ after_end earlier (f x).end
+        → SoFar by crew table passes shifts (map f rest) kept' d0 d2 r0 r2 f0 f2 now
+    so_next items rest x kept kept' d0 d1 d2 r0 r1 r2 f0 f1 f2 earlier now is so takes diary returned less more cause ends =
+        goes_on by crew table passes shifts (f x) (map f rest) kept kept' d0 d1 d2 r0 r1 r2 f0 f1 f2 earlier now (subst (λ (l : List X). SoFar by crew table passes shifts (map f l) kept d0 d1 r0 r1 f0 f1 earlier) is so) takes diary returned less more cause ends
+
+    pub so_ends : (items : List X) (n : ℕ) (kept : Option (Pass Call)) (old new : Option Diary) (returned returned' faults faults' : ℕ) (now : Status) → n ≡ length items → n ≡ 0 → SoFar by crew table passes shifts (map f items) kept old new returned returned' faults faults' now
+        → Finished by crew passes shifts old new returned returned' faults faults' now
+    so_ends items n kept old new returned returned' faults faults' now is nought so = finishes by crew table passes shifts old new returned returned' faults faults' now (map f items) kept (ap (map f) (none_left n items is nought)) so

@@ -42,7 +42,7 @@ book_of (Some old) None visits none visited = tt
 book_of (Some old) (Some new) visits none visited = visited.passed ∙ ap (λ l. l ++ flat_map passed_of visits) none
 
 -- the shift of a worker that had not begun
-pub shift_of : (by : Made) (crew : Crew) (old new : Post) → Worked by crew old new → Shift
+abbrev pub shift_of : (by : Made) (crew : Crew) (old new : Post) → Worked by crew old new → Shift
 shift_of by crew old new worked = record { visits = worked.visits; end = new.end }
 
 is_shift : (by : Made) (crew : Crew) (old new : Post) → IsNew old.tells → (worked : Worked by crew old new) → IsShift crew.settings crew.places crew.connections (shift_of by crew old new worked) new.tells
@@ -66,7 +66,7 @@ pub done_one : (by : Made) (crew : Crew) (table : TableId) (passes number : ℕ)
 done_one by crew table passes number old new ready worked = record {
   cell = (worked.stays.table ∙ ready.cell.0, worked.stays.passes ∙ ready.cell.1);
   numbers = worked.stays.numbers ∙ ready.numbers;
-  told = told_since by old.home.number number (flat_map calls_of worked.visits) old.home.seen new.home.seen ready.unseen ready.number worked.serves.calls;
+  told = told_since by old.home.number number (flat_map calls_of worked.visits) old.home.seen new.home.seen ready.unseen ready.numbered worked.serves.calls;
   tell = is_shift by crew old new ready.fresh worked;
   ends_so = refl;
   failed = λ is. omega (arith, worked.failed is, ready.fresh.faults);
@@ -78,7 +78,7 @@ all_done by crew table passes number [] (new ∷ news) ready worked = elim worke
 all_done by crew table passes number (old ∷ olds) [] ready worked = elim worked [ ]
 all_done by crew table passes number (old ∷ olds) (new ∷ news) ready worked =
     let rest = all_done by crew table passes (number + 1) olds news ready.1 worked.1 in
-    (shift_of by crew old new worked.0 ∷ rest.0, done_one by crew table passes number old new ready.0 worked.0, rest.1)
+    (shift_of by crew old new worked.0 ∷ rest.0, (done_one by crew table passes number old new ready.0 worked.0, rest.1))
 
 -- they are in the cell
 pub in_cell : (by : Made) (crew : Crew) (table : TableId) (passes number : ℕ) (posts : List Post) (shifts : List Shift) → DoneFrom by crew table passes number posts shifts → All (IsInCell table passes) posts

@@ -2,3 +2,4 @@ pub mod CrewLemmas
 pub mod FinishingLemmas
 pub mod HiringLemmas
 pub mod JobLemmas
+pub mod SendLemmas

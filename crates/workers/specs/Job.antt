@@ -1,5 +1,5 @@
 -- What a worker of a crew does.
-use Rattle.std.specs.Prelude.{◌≡◌, ◌×◌, ℕ, ◌+◌, ◌<◌, List, [], ◌∷◌, length, map}
+use Rattle.std.specs.Prelude.{◌≡◌, ℕ, ◌+◌, ◌<◌, List, [], ◌∷◌, length, map}
 use Rattle.atomic_table.specs.Seated.{TableId}
 use Rattle.doors.specs.Outside.{IsNew, Tellings}
 use Rattle.doors.specs.Visit.{IsEndOf, IsVisit, Serves, Visit}
@@ -21,7 +21,7 @@ pub record Post : Type 0 where
   pub tells : Tellings
   pub end : DoorEnd
 
-abbrev pub post_of : {D G C : Type 0} → (Worker D G C → Tellings) → Job D G C → Post
+abbrev pub post_of : {J D G C : Type 0} → (Worker D G C → Tellings) → Job J D G C → Post
 post_of tells job = record { home = job.home; tells = tells job.worker; end = job.end }
 
 -- The connections of its door were served through the home of its pass, which stays in its cell.
@@ -46,7 +46,7 @@ IsInCell table passes post = (post.home.table ≡ table) × (post.home.passes �
 -- it has not begun, with the pass of this number of a cell with so many passes
 pub record IsReady (table : TableId) (passes number : ℕ) (post : Post) : Type 0 where
   pub cell : IsInCell table passes post
-  pub number : post.home.number ≡ number
+  pub numbered : post.home.number ≡ number
   pub numbers : post.home.numbers ≡ number ∷ []
   pub unseen : post.home.seen ≡ []
   pub fresh : IsNew post.tells

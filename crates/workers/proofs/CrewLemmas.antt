@@ -1,5 +1,6 @@
 -- What a crew has served.
-use Rattle.std.proofs.Common.{◌≡◌, ℕ, ◌+◌, ◌≤◌, List, [], ◌∷◌, ◌++◌, All, length, map, refl, sym, ◌∙◌, ap, subst, inl, inr, arith, append-nil, ◌<◌, ◌⊎◌}
+use Rattle.std.proofs.Common.{◌≡◌, ℕ, ◌+◌, ◌≤◌, List, [], ◌∷◌, ◌++◌, All, length, map, refl, sym, ◌∙◌, ap, subst, inl, inr, arith, append-nil, ◌<◌, ◌⊎◌, ◌-◌, ◌^◌, min, take, drop, get_or}
+use Rattle.std.proofs.lemmas.List.{length-map}
 use Rattle.std.proofs.lemmas.List.Elements.{All-nil, All-cons}
 use Rattle.std.specs.List.{flat_map, fold}
 use Rattle.std.specs.Prelude.{replicate, true}
@@ -22,11 +23,22 @@ use Rattle.node_core.specs.Law.{IsLawful}
 use Rattle.session.specs.Doing.{Told}
 use Rattle.session.specs.Law.{KeepsTheLaw}
 use Rattle.session.specs.declared.settings.Settings.{Settings}
-use Rattle.workers.proofs.HiringLemmas.{diary_then}
+use Rattle.workers.proofs.HiringLemmas.{diary_same, diary_then}
+use Rattle.workers.proofs.JobLemmas.{all_done, all_worked, as_many}
 use Rattle.workers.specs.Crew.{AllEnd, AllTold, AreShifts, Dismissed, EndsWell, GaveBack, IsOneHistory, Served, Serves, Shift, after_end, refused, refused_status, shift_calls, status_of}
 use Rattle.workers.specs.Finishing.{Finished}
 use Rattle.workers.specs.declared.crew.Crew.{Crew}
+use Rattle.workers.specs.Hiring.{HasCause}
+use Rattle.workers.specs.Job.{AllWorked, DoneFrom, Post, ReadyFrom, Worked}
 use Rattle.workers.specs.declared.hiring.Unhired.{Unhired}
+use Rattle.workers.specs.declared.hiring.Unhired.TheVariants as unhired
+use Rattle.atomic_table.specs.Seated.{TableId}
+use Rattle.doors.specs.declared.outside.OutsideFault.TheVariants as fault
+use Rattle.history.specs.declared.call.Call.{Call}
+use Rattle.turn_cell.proofs.Histories.{length-numbers_from}
+use Rattle.turn_cell.specs.Cell.{number_of}
+use Rattle.turn_cell.specs.History.{numbers_from}
+use Rattle.turn_cell.specs.declared.pass.Pass.{Pass}
 
 -- what is opened by visits is ended
 abbrev pub EndsVisits : Type 0
@@ -144,4 +156,50 @@ dismissed by crew number why back old middle new r0 r1 r2 f0 f1 f2 result fewer 
   gave_back = subst (λ (n : ℕ). GaveBack n r2 number) same gave_back;
   ends_so = is;
   failed = λ outside. omega (arith, cause (sym is ∙ outside), less);
+})
+
+-- ---- the workers that were hired
+
+whole_again : {X : Type 0} (new old : List X) → length new ≡ length old → take (length old) (new ++ drop (length new) old) ≡ new
+whole_again [] [] same = refl
+whole_again [] (y ∷ old) same = absurd (omega (arith, same))
+whole_again (x ∷ new) [] same = absurd (omega (arith, same))
+whole_again (x ∷ new) (y ∷ old) same = ap (λ l. x ∷ l) (whole_again new old (omega (arith, same)))
+
+module _ {X : Type 0} (f : X → Post) (by : Made) (crew : Crew) (table : TableId) (passes : ℕ) where
+  pub hired_done : (n : ℕ) (items olds news : List X) → n ≡ length items → olds ≡ items → length news ≡ length olds → ((i : ℕ) (d : X) → i < length olds → Worked by crew (f (get_or olds i d)) (f (get_or news i d))) → ReadyFrom table passes 0 (map f items)
+      → (shifts : List Shift) × DoneFrom by crew table passes 0 (map f (take n (news ++ drop (length news) items))) shifts × (length shifts ≡ length items)
+  hired_done n items olds news long same len each ready =
+      let len' : length news ≡ length items = len ∙ ap length same in
+      let worked = subst (λ (l : List X). AllWorked by crew (map f l) (map f news)) same (all_worked f by crew olds news len each) in
+      let done = all_done by crew table passes 0 (map f items) (map f news) ready worked in
+      let whole : take n (news ++ drop (length news) items) ≡ news = ap (λ (k : ℕ). take k (news ++ drop (length news) items)) long ∙ whole_again news items len' in
+      (done.0, subst (λ (l : List X). DoneFrom by crew table passes 0 (map f l) done.0) (sym whole) done.1, as_many by crew table passes 0 (map f news) done.0 done.1 ∙ (length-map news f ∙ len'))
+
+  pub all_ready_new : (number : ℕ) (items : List X) → ReadyFrom table passes number (map f items) → All IsNew (map (λ x. (f x).tells) items)
+  all_ready_new number [] ready = All-nil IsNew
+  all_ready_new number (x ∷ items) ready = All-cons IsNew (f x).tells (map (λ y. (f y).tells) items) ready.0.fresh (all_ready_new (number + 1) items ready.1)
+
+pub refused_rose : (faults faults' : ℕ) (why : Unhired) → HasCause faults faults' why → refused_status why ≡ status.Outside → Rose faults faults'
+refused_rose faults faults' unhired.Memory cause is = absurd (cc)
+refused_rose faults faults' (unhired.Fault fault.BadAddress) cause is = absurd cause
+refused_rose faults faults' (unhired.Fault fault.Failed) cause is = cause
+refused_rose faults faults' (unhired.Fault fault.Memory) cause is = absurd (cc)
+
+pub count_new : (passes : List (Pass Call)) (many : ℕ) → map number_of passes ≡ numbers_from 0 many → length passes ≡ many
+count_new passes many is = sym (length-map passes number_of) ∙ (ap length is ∙ length-numbers_from 0 many)
+
+-- want of memory for the cell
+pub no_cell : (by : Made) (crew : Crew) (diary : Option Diary) (returned faults : ℕ) → Serves by crew diary diary returned returned faults faults status.Memory
+no_cell by crew diary returned faults = inr (record {
+  number = 0;
+  why = unhired.Memory;
+  back = [];
+  fewer = omega arith;
+  diary = diary_same diary;
+  are_new = All-nil IsNew;
+  as_many = refl;
+  gave_back = ap (λ (n : ℕ). min n (2 ^ 64 - 1)) (let e : returned ≡ returned + 0 = omega arith in e);
+  ends_so = refl;
+  failed = λ is. absurd (cc);
 })

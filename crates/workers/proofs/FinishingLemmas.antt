@@ -104,9 +104,11 @@ next_kept by crew table passes before post shift old new kept done takes = recor
   where
     counted : length (map shift_calls before) ≡ length before
     counted = length-map before shift_calls
+
     later : AllTold by 0 (map shift_calls before) (history_of (seen_of new))
     later = all_later by 0 (map shift_calls before) (numbers_of old) (seen_of old) (seen_of new)
         (λ x above below. subst (λ ns. Contains ns x) (sym kept.numbers) (numbers_from-has 0 (length before) x (omega arith) (omega (arith, below, counted)))) takes.2 kept.told
+
     own : Told (record { made = by; number = 0 + length (map shift_calls before) }) [] (shift_calls shift) (history_of (seen_of new))
     own = subst (λ n. Told (record { made = by; number = n }) [] (shift_calls shift) (history_of (seen_of new))) (let e : length before ≡ 0 + length (map shift_calls before) = omega (arith, counted) in e)
         (told_later by (length before) (shift_calls shift) post.home.numbers post.home.seen (seen_of new) (subst (λ ns. Contains ns (length before)) (sym done.numbers) (head_in (length before) [])) takes.3 done.told)
@@ -254,17 +256,17 @@ module _ (by : Made) (crew : Crew) (table : TableId) (passes : ℕ) (shifts : Li
 
 -- ---- the loop over the workers
 
+pub kept_next : (table : TableId) (passes : ℕ) (home : Standing) (old new : Option (Pass Call)) → TakesIn home old new → home.table ≡ table → home.passes ≡ passes → IfSome new (λ keep. SitsAt table passes keep)
+kept_next table passes home None None takes same_table same_passes = tt
+kept_next table passes home (Some old) None takes same_table same_passes = tt
+kept_next table passes home None (Some new) takes same_table same_passes = subst (λ t. SitsAt t passes new) same_table (subst (λ n. SitsAt home.table n new) same_passes takes.0)
+kept_next table passes home (Some old) (Some new) takes same_table same_passes = subst (λ t. SitsAt t passes new) same_table (subst (λ n. SitsAt home.table n new) same_passes takes.0)
+
 module _ {X : Type 0} (f : X → Post) (table : TableId) (passes : ℕ) where
   pub cell_next : (items rest : List X) (x : X) → items ≡ x ∷ rest → All (IsInCell table passes) (map f items) → IsInCell table passes (f x) × All (IsInCell table passes) (map f rest)
   cell_next items rest x is all =
       let here = subst (λ (l : List X). All (IsInCell table passes) (map f l)) is all in
       (All-head (IsInCell table passes) (f x) (map f rest) here, All-tail (IsInCell table passes) (f x) (map f rest) here)
-
-  pub kept_next : (home : Standing) (old new : Option (Pass Call)) → TakesIn home old new → home.table ≡ table → home.passes ≡ passes → IfSome new (λ keep. SitsAt table passes keep)
-  kept_next home None None takes same_table same_passes = tt
-  kept_next home (Some old) None takes same_table same_passes = tt
-  kept_next home None (Some new) takes same_table same_passes = subst (λ t. SitsAt t passes new) same_table (subst (λ n. SitsAt home.table n new) same_passes takes.0)
-  kept_next home (Some old) (Some new) takes same_table same_passes = subst (λ t. SitsAt t passes new) same_table (subst (λ n. SitsAt home.table n new) same_passes takes.0)
 
   module _ (by : Made) (crew : Crew) (shifts : List Shift) where
     pub so_init : (all items : List X) (diary : Option Diary) (returned faults : ℕ) → items ≡ all → DoneFrom by crew table passes 0 (map f all) shifts → SoFar by crew table passes shifts (map f items) None diary diary returned returned faults faults status.Done

@@ -22,14 +22,16 @@ new_from table count number many [] numbered sit own unseen = tt
 new_from table count number zero (pass ∷ passes) numbered sit own unseen = absurd (omega (arith, ap length numbered))
 new_from table count number (suc many) (pass ∷ passes) numbered sit own unseen =
     let is : number_of pass ≡ number = cc in
-    let more : map number_of passes ≡ numbers_from (number + 1) many = cc in
-    (record {
-      sits = All-head (λ (p : Pass Call). SitsAt table count p) pass passes sit;
-      numbered = is;
-      own = All-head (λ (p : Pass Call). numbers_of p ≡ number_of p ∷ []) pass passes own ∙ ap (λ n. n ∷ []) is;
-      unseen = All-head (λ (p : Pass Call). seen_of p ≡ []) pass passes unseen;
-    }, new_from table count (number + 1) many passes more (All-tail (λ (p : Pass Call). SitsAt table count p) pass passes sit) (All-tail (λ (p : Pass Call). numbers_of p ≡ number_of p ∷ []) pass passes own)
-    (All-tail (λ (p : Pass Call). seen_of p ≡ []) pass passes unseen))
+    let more : map number_of passes ≡ numbers_from (number + 1) many = cc in (
+      record {
+        sits = All-head (λ (p : Pass Call). SitsAt table count p) pass passes sit;
+        numbered = is;
+        own = All-head (λ (p : Pass Call). numbers_of p ≡ number_of p ∷ []) pass passes own ∙ ap (λ n. n ∷ []) is;
+        unseen = All-head (λ (p : Pass Call). seen_of p ≡ []) pass passes unseen;
+      },
+      new_from table count (number + 1) many passes more (All-tail (λ (p : Pass Call). SitsAt table count p) pass passes sit) (All-tail (λ (p : Pass Call). numbers_of p ≡ number_of p ∷ []) pass passes own)
+          (All-tail (λ (p : Pass Call). seen_of p ≡ []) pass passes unseen),
+    )
 
 -- ---- one more worker
 

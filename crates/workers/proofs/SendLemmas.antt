@@ -1,9 +1,9 @@
 -- What the workers share may cross threads.
-use denote.Param.Send.{IsSend, IsSync, sendable, view_send}
+use denote.Param.Send.{IsSend, IsSync, sendable, shr_send, view_send}
 use denote.Ref.{NamedLft}
 use Rattle.node_cell.specs.declared.made.MadeWith.{Ghosts}
 use denote.RattleType.{RattleType}
-use denote.Param.SendFields.{as_row_send, declared_send, variants_send}
+use denote.Param.SendFields.{as_row_send, as_row_sync, declared_send, declared_sync}
 use Rattle.std.proofs.Crossing.{crosses}
 use Rattle.history.specs.contracts.call.Call as call
 use Rattle.metadata_objects.specs.contracts.tree.Tree as tree
@@ -35,6 +35,11 @@ use Rattle.doors.proofs.serve.DoorEnd.TheSendSync as ends
 use Rattle.turn_cell.proofs.cell.TurnCell.TheSendSync as cells
 use Rattle.turn_cell.proofs.pass.Pass.TheSendSync as passes
 use Rattle.node_cell.specs.contracts.home.CellHome as home
+use Rattle.node_cell.specs.contracts.home.CellHome.TheInside as homes
+use denote.Struct.Field.{shr_ref_field}
+use Rattle.turn_cell.specs.contracts.cell.TurnCell as turn
+use Rattle.node_cell.specs.contracts.made.MadeNode as mades
+use Rattle.node_cell.specs.contracts.cell.NodeCell as cell
 use Rattle.workers.specs.contracts.job.Job as job
 use Rattle.targets.proofs.endpoint.Endpoint.TheSendSync as endpoints
 use Rattle.listing.proofs.list.Listing.TheSendSync as lists
@@ -73,12 +78,15 @@ state_send = search (sendable, crosses, edge_send, controls.the_send, texts.the_
 pub node_send : IsSend node.the_row
 node_send = search (sendable, crosses, state_send, limits.the_send, journals.the_send, entered_send) depth 40
 
-home_send : (ℓ : NamedLft) (J : RattleType) (made : Ghosts J.Denot) → IsSend J → IsSync J → IsSend (home.the_row ℓ J made)
-home_send ℓ J made sent shared = search (sendable, crosses, cells.the_field_sync, passes.the_field_send, node_send, sent, shared) depth 40
+made_send : (P : RattleType) → IsSend P → IsSend (mades.the_row P)
+made_send P sent = declared_send (mades.the_type P) (as_row_send node.the_field node_send, (search (sendable, crosses, sent) depth 12, tt))
 
--- what one worker does crosses where its parts do
-pub job_send : (ℓ : NamedLft) (J D G C : RattleType) (made : Ghosts J.Denot) → IsSend J → IsSync J → IsSend D → IsSend G → IsSend C → IsSend (job.the_row ℓ J D G C made)
-job_send ℓ J D G C made sent shared door gate clock = declared_send (job.the_type ℓ J D G C made) (
-  as_row_send (home.the_field ℓ J made) (home_send ℓ J made sent shared),
-  (search (sendable, outsides.the_send, door, gate, clock) depth 12, (search (sendable, ends.the_send), tt)),
-)
+cell_sync : (P : RattleType) (made : Ghosts P.Denot) → IsSend P → IsSync P → IsSync (cell.the_row P made)
+cell_sync P made sent shared = declared_sync (cell.the_type P made) (as_row_sync (turn.the_field (mades.the_row P) call.the_row _) (cells.the_field_sync (mades.the_row P) call.the_row _ (made_send P sent)), tt)
+
+home_send : (ℓ : NamedLft) (P : RattleType) (made : Ghosts P.Denot) → IsSend P → IsSync P → IsSend (home.the_row ℓ P made)
+home_send ℓ P made sent shared =
+    view_send _ _ _ _ _ (declared_send (homes.the_type ℓ P made) (as_row_send (shr_ref_field ℓ (cell.the_row P made) tt) (shr_send _ _ _ (cell_sync P made sent shared)), (search (sendable, passes.the_field_send) depth 12, tt)))
+
+pub home_field_send : (ℓ : NamedLft) (P : RattleType) (made : Ghosts P.Denot) → IsSend P → IsSync P → IsSend (home.the_field ℓ P made).row
+home_field_send = home_send

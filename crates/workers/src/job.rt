@@ -38,12 +38,17 @@ pub(crate) fn serve_jobs<
         (post_of (tells_of D.book D.faults G.exchanges C.given) (slice_index_or jobs.old i d))
         (post_of (tells_of D.book D.faults G.exchanges C.given) (slice_index_or jobs.new i d)) }
 {
-    thread::for_each_mut(rt, jobs, MOST_THREADS, &|_, job: &mut Job<J, D, G, C>|
-        ensures { Worked J.made crew.entry.now (post_of (tells_of D.book D.faults G.exchanges C.given) job.old)
-            (post_of (tells_of D.book D.faults G.exchanges C.given) job.new) }
-    {
-        serve_job(rt, alloc, job, crew);
-    });
+    thread::for_each_mut(
+        rt,
+        jobs,
+        MOST_THREADS,
+        &|_, job: &mut Job<J, D, G, C>|
+            ensures { Worked J.made crew.entry.now (post_of (tells_of D.book D.faults G.exchanges C.given) job.old)
+                (post_of (tells_of D.book D.faults G.exchanges C.given) job.new) }
+        {
+            serve_job(rt, alloc, job, crew);
+        },
+    );
 }
 
 // serves the connections of a worker

@@ -3,7 +3,7 @@ use Rattle.std.specs.Prelude.{◌≡◌, ℕ, Bool, true, false, List, [], ◌�
 use Rattle.std.specs.declared.option.Option.{Option}
 use Rattle.std.specs.declared.result.Result.{Result}
 use Rattle.doors.specs.MemoryDoor.{Hall, book_of}
-use Rattle.doors.specs.Outside.{Asked, Diary, Hired, IsNew, Listened, Tellings, tells_of}
+use Rattle.doors.specs.Outside.{Asked, Diary, Hired, IsNew, Listened, Placed, Tellings, tells_of}
 use Rattle.doors.specs.declared.outside.OutsideFault.{OutsideFault}
 use Rattle.doors.specs.declared.outside.OutsideFault.TheVariants as fault
 use Rattle.doors.specs.declared.outside.Worker.{Worker}
@@ -15,12 +15,13 @@ use Rattle.doors.specs.declared.memory_outside.Noted.TheVariants as noted
 abbrev pub MemoryWorker : Type 0
 MemoryWorker = Worker Hall Answers Ticks
 
--- the workers left, the calls so far, the workers that were given back, whether this is still told, the faults so far, and
--- how many workers were given back
+-- the workers left, the calls so far, the workers that were given back, the text of each file of places, whether this is
+-- still told, the faults so far, and how many workers were given back
 pub record Bureau : Type 0 where
   pub left : List MemoryWorker
   pub calls : List Asked
   pub back : List MemoryWorker
+  pub places : List ℕ
   pub telling : Bool
   pub faults : ℕ
   pub returned : ℕ
@@ -32,10 +33,15 @@ tells_at worker = tells_of book_of (λ d. d.faults) told_of moments_given worker
 abbrev pub IsFresh : MemoryWorker → Type 0
 IsFresh worker = IsNew (tells_at worker)
 
--- a call as it was remembered
-abbrev pub asked_at : Noted → Asked
-asked_at (noted.Listened address met) = Listened address met
-asked_at (noted.Hired given) = Hired given
+abbrev pub copy_if : Bool → List ℕ → Result (List ℕ) OutsideFault
+copy_if true text = Ok text
+copy_if false text = Err fault.Memory
+
+-- a call as it was remembered, where the files of places have this text
+abbrev pub asked_at : List ℕ → Noted → Asked
+asked_at text (noted.Placed path copied) = Placed path (copy_if copied text)
+asked_at text (noted.Listened address met) = Listened address met
+asked_at text (noted.Hired given) = Hired given
 
 abbrev pub told_if : Bool → Diary → Option Diary
 told_if true diary = Some diary

@@ -43,8 +43,10 @@ pub record IsNew (tells : Tellings) : Type 0 where
   pub exchanges : IsAllOf tells.exchanges []
   pub moments : IsAllOf tells.moments []
 
--- a call of the outside: to listen at an address, which met this fault or none, and for a worker, which was given or not
+-- a call of the outside: for the file of places at a path, which gave this text or met this fault; to listen at an address,
+-- which met this fault or none; and for a worker, which was given or not
 pub data Asked : Type 0 where
+  Placed : (path : List ℕ) (answer : Result (List ℕ) OutsideFault) → Asked
   Listened : (address : List ℕ) (fault : Option OutsideFault) → Asked
   Hired : (given : Bool) → Asked
 

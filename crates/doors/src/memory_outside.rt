@@ -1,9 +1,9 @@
 //! An outside in memory.
 
-ghost use Rattle.std.specs.Prelude.{◌≡◌, ◌==◌, ◌&&◌, if◌then◌else◌, ◌++◌, [], ◌∷◌, All, IfOk, IsTrue, map, true};
+ghost use Rattle.std.specs.Prelude.{◌≡◌, ◌==◌, ◌&&◌, if◌then◌else◌, ℕ, List, ◌++◌, [], ◌∷◌, All, IfOk, IsTrue, map, true};
 ghost use Rattle.edge_base.specs.Causes.{next_count};
-ghost use Rattle.doors.specs.Outside.{Hired, Listened};
-ghost use Rattle.doors.specs.MemoryOutside.{IsFresh, asked_at};
+ghost use Rattle.doors.specs.Outside.{Hired, Listened, Placed};
+ghost use Rattle.doors.specs.MemoryOutside.{IsFresh, asked_at, copy_if};
 
 use crate::address::read_address;
 use crate::memory_door::{MemoryDoor, turned};
@@ -25,13 +25,15 @@ pub type WorkerList = Listing<MemoryWorker>;
 /// A call of an outside, as it is remembered.
 #[derive(Drop)]
 pub(crate) enum Noted {
+    // for the file of places at a path, of which a copy was made or not
+    Placed(Text, bool),
     // to listen at an address, which met this fault or none
     Listened(Text, Option<OutsideFault>),
     // for a worker, which was given or not
     Hired(bool),
 }
 
-/// An outside that gives given workers in order, and then fails. It tells its calls and what the workers told that were
+/// An outside that gives given workers in order, and then fails. At each path it has the same file of places. It tells its calls and what the workers told that were
 /// given back, unless it finds no memory to remember one of them: from then on it tells no more.
 #[derive(Drop)]
 pub struct MemoryOutside {
@@ -39,6 +41,7 @@ pub struct MemoryOutside {
     left: Vec<MemoryWorker>,
     calls: Vec<Noted>,
     back: Vec<MemoryWorker>,
+    places: Text,
     telling: bool,
     faults: u64,
     returned: u64,
@@ -52,8 +55,9 @@ impl Model for MemoryOutside {
 
     ghost view = { λ o. record {
       left = reverse o.left.items;
-      calls = map asked_at o.calls.items;
+      calls = map (asked_at o.places) o.calls.items;
       back = o.back.items;
+      places = o.places;
       telling = o.telling;
       faults = o.faults;
       returned = o.returned;
@@ -63,16 +67,21 @@ impl Model for MemoryOutside {
 }
 
 impl MemoryOutside {
-    /// An outside that has these workers left, none of which was called before.
+    /// An outside that has these workers left, none of which was called before, and this file of places.
     ///
     /// # Errors
     /// Want of memory.
-    pub fn new(alloc: Global, workers: WorkerList) -> Result<MemoryOutside, AllocError>
+    pub fn new(
+        alloc: Global,
+        workers: WorkerList,
+        places: &[u8],
+    ) -> Result<MemoryOutside, AllocError>
         requires fresh { All IsFresh workers }
         ensures { IfOk result (λ o. o ≡ record {
           left = workers;
           calls = [];
           back = [];
+          places = places.now;
           telling = true;
           faults = 0;
           returned = 0;
@@ -83,6 +92,7 @@ impl MemoryOutside {
             left,
             calls: Vec::new(alloc),
             back: Vec::new(alloc),
+            places: Text::of(alloc, places)?,
             telling: true,
             faults: 0,
             returned: 0,
@@ -97,6 +107,17 @@ impl MemoryOutside {
     }
 }
 
+// remembers a call for the file of places; false for want of memory
+fn note_placed(alloc: Global, calls: &mut Vec<Noted>, path: &[u8], copied: bool) -> bool
+    ensures { (text : List ℕ) → IsTrue result → map (asked_at text) calls.new.items
+        ≡ map (asked_at text) calls.old.items ++ Placed path.now (copy_if copied text) ∷ [] }
+{
+    match Text::of(alloc, path) {
+        Ok(path) => calls.push(Noted::Placed(path, copied)).is_ok(),
+        Err(_) => false,
+    }
+}
+
 // remembers a call to listen; false for want of memory
 fn note_listened(
     alloc: Global,
@@ -104,7 +125,8 @@ fn note_listened(
     address: &[u8],
     fault: Option<OutsideFault>,
 ) -> bool
-    ensures { IsTrue result → map asked_at calls.new.items ≡ map asked_at calls.old.items ++ Listened address.now fault ∷ [] }
+    ensures { (text : List ℕ) → IsTrue result → map (asked_at text) calls.new.items
+        ≡ map (asked_at text) calls.old.items ++ Listened address.now fault ∷ [] }
 {
     match Text::of(alloc, address) {
         Ok(text) => calls.push(Noted::Listened(text, fault)).is_ok(),
@@ -114,7 +136,8 @@ fn note_listened(
 
 // remembers a call for a worker; false for want of memory
 fn note_hired(calls: &mut Vec<Noted>, given: bool) -> bool
-    ensures { IsTrue result → map asked_at calls.new.items ≡ map asked_at calls.old.items ++ Hired given ∷ [] }
+    ensures { (text : List ℕ) → IsTrue result → map (asked_at text) calls.new.items
+        ≡ map (asked_at text) calls.old.items ++ Hired given ∷ [] }
 {
     calls.push(Noted::Hired(given)).is_ok()
 }
@@ -140,7 +163,7 @@ impl Outside for MemoryOutside {
     ghost use Rattle.std.specs.Prelude.{◌≡◌, ◌≢◌, ◌≤◌, ◌<◌, ◌+◌, ◌-◌, ◌^◌, ◌↔◌, [], ◌∷◌, None, Err, IfOk, is_ok, min};
     ghost use Rattle.edge_base.specs.Causes.{Rose};
     ghost use Rattle.doors.specs.Address.{address_of};
-    ghost use Rattle.doors.specs.Outside.{DiaryGrows, HasFaultCause, Hired, Listened, fault_in};
+    ghost use Rattle.doors.specs.Outside.{DiaryGrows, HasFaultCause, Hired, Listened, Placed, fault_in};
     ghost use Rattle.doors.specs.MemoryOutside.{GivesNext, IsFresh, diary_of, tells_at};
 
     type D = MemoryDoor;
@@ -209,6 +232,35 @@ impl Outside for MemoryOutside {
                 self.telling = are_both(self.telling, noted);
                 self.faults = self.faults.saturating_add(1);
                 Err(OutsideFault::Failed)
+            }
+        }
+    }
+
+    /// A copy of the text that it was made with.
+    fn places<R: Threads + Wait + Sync>(
+        &mut self,
+        _rt: &R,
+        alloc: Global,
+        path: &[u8],
+    ) -> Result<Text, OutsideFault>
+        ensures left { self.new.left ≡ self.old.left }
+        ensures text { IfOk result (λ text. text ≡ self.old.places) }
+        ensures diary { DiaryGrows (diary_of self.old) (diary_of self.new) (Placed path.now result ∷ []) [] }
+        ensures returned { self.new.returned ≡ self.old.returned }
+        ensures later { self.old.faults ≤ self.new.faults }
+        ensures cause { HasFaultCause self.old.faults self.new.faults result }
+        ensures address { result ≢ Err OutsideFault.BadAddress }
+    {
+        match Text::of(alloc, self.places.bytes()) {
+            Ok(text) => {
+                let noted = note_placed(alloc, &mut self.calls, path, true);
+                self.telling = are_both(self.telling, noted);
+                Ok(text)
+            }
+            Err(_) => {
+                let noted = note_placed(alloc, &mut self.calls, path, false);
+                self.telling = are_both(self.telling, noted);
+                Err(OutsideFault::Memory)
             }
         }
     }

@@ -4,10 +4,11 @@ ghost use Rattle.std.specs.Prelude.{◌≡◌, ◌≢◌, ◌≤◌, ◌<◌, �
 ghost use Rattle.std.specs.declared.option.Option.{Option};
 ghost use Rattle.edge_base.specs.Causes.{Rose};
 ghost use Rattle.doors.specs.Address.{address_of};
-ghost use Rattle.doors.specs.Outside.{Diary, DiaryGrows, HasFaultCause, Hired, IsNew, Listened, fault_in, tells_of};
+ghost use Rattle.doors.specs.Outside.{Diary, DiaryGrows, HasFaultCause, Hired, IsNew, Listened, Placed, fault_in, tells_of};
 
 use crate::door::Door;
 use edge_base::Clock;
+use listing::Text;
 use std::alloc::Global;
 use std::sync::Wait;
 use std::thread::Threads;
@@ -32,7 +33,7 @@ pub struct Worker<D, G, C> {
     pub clock: C,
 }
 
-/// Listens at an address and gives workers, which are given back.
+/// Listens at an address, gives workers, which are given back, and has files of places.
 ///
 /// Its calls and what the workers told that were given back may be told, as of an outside in memory, or not, as of one over
 /// sockets. The count of faults never falls.
@@ -81,6 +82,22 @@ pub trait Outside: Drop {
         ensures cause { HasFaultCause (faults self.old) (faults self.new) result }
         ensures address { result ≢ Err OutsideFault.BadAddress }
         ensures fresh { IfOk result (λ w. IsNew (tells_of Self.D.book Self.D.faults Self.G.exchanges Self.C.given w)) };
+
+    /// The text of the file of places at this path.
+    ///
+    /// # Errors
+    /// A fault, which is counted. Want of memory.
+    fn places<R: Threads + Wait + Sync>(
+        &mut self,
+        rt: &R,
+        alloc: Global,
+        path: &[u8],
+    ) -> Result<Text, OutsideFault>
+        ensures diary { DiaryGrows (diary self.old) (diary self.new) (Placed path.now result ∷ []) [] }
+        ensures returned { returned self.new ≡ returned self.old }
+        ensures later { faults self.old ≤ faults self.new }
+        ensures cause { HasFaultCause (faults self.old) (faults self.new) result }
+        ensures address { result ≢ Err OutsideFault.BadAddress };
 
     /// Takes a worker back. It never fails. A worker whose door has counted a fault counts as a fault.
     fn give_back(&mut self, worker: Worker<Self::D, Self::G, Self::C>)

@@ -26,6 +26,15 @@ note_of status.WriteFault stops = codes "write fault\n"
 note_of status.Memory stops = codes "want of memory\n"
 note_of status.Outside stops = codes "outside fault\n"
 
+-- this line of the file of places, counted from 1, does not read
+abbrev pub bad_place_text : ℕ → List ℕ
+bad_place_text line = codes "places line " ++ decimal line ++ codes "\n"
+
+-- the note of the status of serving, where this line does not read
+abbrev pub serve_note : Status → Option ℕ → List ℕ
+serve_note result None = note_of result None
+serve_note result (Some line) = bad_place_text line
+
 -- the same of the end of a replay
 abbrev pub end_note : ReplayEnd → List ℕ
 end_note replay_end.Done = []

@@ -1,150 +1,202 @@
--- What is served by a worker, and by the whole command.
-use Rattle.std.specs.Prelude.{◌≡◌, ◌≢◌, ◌⊎◌, ℕ, ◌+◌, ◌-◌, ◌^◌, ◌<◌, min, true, false, List, [], ◌∷◌, All, length, map, None, Some}
-use Rattle.std.specs.List.{flat_map}
+-- The command that serves.
+use Rattle.std.specs.Prelude.{◌≡◌, ◌≢◌, ◌≤◌, ◌⊎◌, ℕ, true, List, [], ◌∷◌, ◌++◌, All, length, replicate, None, Some, Ok, Err, IfSome, IsSome}
 use Rattle.std.specs.declared.option.Option.{Option}
 use Rattle.doors.specs.Address.{address_of}
-use Rattle.doors.specs.Door.{Book}
-use Rattle.doors.specs.Ended.{EndsItsOwn}
-use Rattle.doors.specs.Outside.{Asked, Diary, DiaryGrows, Hired, IsAllOf, Listened, Tellings}
-use Rattle.doors.specs.Visit.{IsEndOf, IsVisit, Visit, calls_of, exchanges_of, moments_of, passed_of}
+use Rattle.doors.specs.Outside.{Asked, Diary, DiaryGrows, Hired, Listened, Placed, Tellings}
 use Rattle.doors.specs.declared.outside.OutsideFault.{OutsideFault}
 use Rattle.doors.specs.declared.outside.OutsideFault.TheVariants as fault
-use Rattle.doors.specs.declared.serve.DoorEnd.{DoorEnd}
-use Rattle.doors.specs.declared.serve.DoorEnd.TheVariants as door_end
 use Rattle.edge_base.specs.Causes.{Rose}
 use Rattle.edge_base.specs.declared.status.Status.{Status}
 use Rattle.edge_base.specs.declared.status.Status.TheVariants as status
 use Rattle.history.specs.Event.{History}
 use Rattle.history.specs.World.{Made}
+use Rattle.location_acl.specs.Line.{AreLines, StopsAt}
 use Rattle.location_acl.specs.declared.line.PlaceLine.{PlaceLine}
-use Rattle.session_base.specs.Doing.{Called, Told}
-use Rattle.session.specs.Law.{KeepsTheLaw}
+use Rattle.serve_words.specs.declared.options.Options.{Options}
 use Rattle.session_base.specs.declared.settings.Settings.{Settings}
-use Rattle.http_node.specs.Options.{Options, made, settings_of}
+use Rattle.workers.specs.Crew.{AreShifts, EndsWell, GaveBack, IsOneHistory, Serves, Shift, fault_status, refused, refused_status}
+use Rattle.workers.specs.declared.crew.Crew.{Crew}
+use Rattle.workers.specs.declared.hiring.Unhired.{Unhired}
+use Rattle.http_node.specs.declared.serve.ServeEnd.{ServeEnd}
+use Rattle.http_node.specs.declared.serve.ServeEnd.TheVariants as serve_end
 
--- the connections that a worker served, one after the other, and how that ended
-pub record Shift : Type 0 where
-  pub visits : List Visit
-  pub end : DoorEnd
+-- ---- what the words say
 
--- where the door tells, this is all that passed: each connection was given, and closed before the next one was given
-abbrev pub IsBookOf : Option Book → List Visit → Type 0
-IsBookOf None visits = Unit {0}
-IsBookOf (Some book) visits = book.passed ≡ flat_map passed_of visits
+-- with what the node is made
+abbrev pub made_of : Options → Made
+made_of options = record { limits = options.limits; origin = options.origin }
 
--- This is what a worker tells of the shift: each connection was served by a session; the gate's exchanges and the clock's
--- moments are those of the sessions and no others.
-pub record IsShift (settings : Settings) (table : List PlaceLine) (connections : Option ℕ) (shift : Shift) (tells : Tellings) : Type 0 where
-  pub each : All (λ (v : Visit). IsVisit settings table v) shift.visits
-  pub door : IsBookOf tells.book shift.visits
-  pub exchanges : IsAllOf tells.exchanges (flat_map exchanges_of shift.visits)
-  pub moments : IsAllOf tells.moments (flat_map moments_of shift.visits)
-  pub ends : IsEndOf connections (length shift.visits) tells.book shift.end
+-- what holds for all connections
+abbrev pub settings_of : Options → Settings
+settings_of options = record {
+  protocol = options.advert.protocol;
+  control = options.control;
+  root = options.root;
+  own = options.own;
+  advert = options.advert;
+}
 
--- the calls of all sessions of a shift, one session after the other
-abbrev pub shift_calls : Shift → List Called
-shift_calls shift = flat_map calls_of shift.visits
+-- the workers, with these places
+abbrev pub crew_of : Options → List PlaceLine → Crew
+crew_of options places = record {
+  workers = options.workers;
+  connections = options.connections;
+  places = places;
+  settings = settings_of options;
+}
 
--- the entries of the history that have this number are the calls of the first list, those of the next number the calls of
--- the next, and so on, each answered at its place as the history before it says
-abbrev pub AllTold : Made → ℕ → List (List Called) → History → Type 0
-AllTold by number [] h = Unit {0}
-AllTold by number (calls ∷ rest) h = Told (record { made = by; number = number }) [] calls h × AllTold by (number + 1) rest h
+-- The table of places is that of the file at this path, for which the outside was called and which gave this text; where no
+-- file is named it is that of an empty text, and the outside was not called.
+abbrev pub IsTable : Option (List ℕ) → List Asked → List PlaceLine → Type 0
+IsTable None asked places = (asked ≡ []) × AreLines [] places
+IsTable (Some path) asked places = (text : List ℕ) × (asked ≡ Placed path (Ok text) ∷ []) × AreLines text places
 
--- each pass below this number has ended what it began
-abbrev pub AllEnd : Made → ℕ → List (List Called) → History → Type 0
-AllEnd by number [] h = Unit {0}
-AllEnd by number (calls ∷ rest) h = EndsItsOwn (record { made = by; number = number }) 0 h × AllEnd by (number + 1) rest h
+-- ---- all is served
 
--- one history of all shifts: its entries are their calls and no others, it keeps the law of deliveries, and what is begun
--- in it is ended
-pub record IsOneHistory (by : Made) (shifts : List Shift) (h : History) : Type 0 where
-  pub below : All (λ entry. entry.0 < length shifts) h
-  pub told : AllTold by 0 (map shift_calls shifts) h
-  pub ended : AllEnd by 0 (map shift_calls shifts) h
-  pub law : KeepsTheLaw by h
-
--- the workers tell these shifts, in order
-abbrev pub AreShifts : Settings → List PlaceLine → Option ℕ → List Shift → List Tellings → Type 0
-AreShifts settings table connections [] [] = Unit {0}
-AreShifts settings table connections (shift ∷ shifts) (tells ∷ others) =
-    IsShift settings table connections shift tells × AreShifts settings table connections shifts others
-AreShifts settings table connections shifts others = ⊥
-
--- the door had no connection left, or as many as were asked for were served
-abbrev pub EndsWell : Shift → Type 0
-EndsWell shift = (shift.end ≡ door_end.Closed) ⊎ (shift.end ≡ door_end.Served)
-
--- All was served, by one worker, under the settings of the words and with no place known: the outside listened at their
--- address, gave the worker, and took it back.
+-- A worker for each pass served under what the words say, with the places of their file: the outside listened at their
+-- address, gave the workers and took them back in order, and one history has all that they called.
 pub record ServesAll (options : Options) (old new : Option Diary) : Type 0 where
+  pub asked : List Asked
+  pub places : List PlaceLine
+  pub placed : IsTable options.places asked places
   pub shifts : List Shift
   pub history : History
   pub back : List Tellings
-  pub count : length shifts ≡ 1
-  pub one : IsOneHistory made shifts history
-  pub tell : AreShifts (settings_of options.root) [] None shifts back
-  pub diary : DiaryGrows old new (Listened options.address None ∷ Hired true ∷ []) back
+  pub count : length shifts ≡ options.workers
+  pub one : IsOneHistory (made_of options) shifts history
+  pub tell : AreShifts (settings_of options) places options.connections shifts back
+  pub diary : DiaryGrows old new (asked ++ Listened options.address None ∷ replicate options.workers (Hired true)) back
   pub ends : All EndsWell shifts
 
--- the status of a fault of the outside
-abbrev pub fault_status : OutsideFault → Status
-fault_status fault.BadAddress = status.Outside
-fault_status fault.Failed = status.Outside
-fault_status fault.Memory = status.Memory
+-- ---- the calls of the outside, up to the first fault
 
--- the calls of the outside, up to its first fault: nothing for want of memory; to listen; and for one worker, which is
--- given back
-abbrev pub IsPlan : List ℕ → Status → List Asked → List Tellings → Type 0
-IsPlan address result calls back =
-    ((result ≡ status.Memory) × (calls ≡ []) × (back ≡ []))
-    ⊎ (((fault : OutsideFault) × (result ≡ fault_status fault) × (calls ≡ Listened address (Some fault) ∷ []) × (back ≡ []))
-    ⊎ (((fault : OutsideFault) × (result ≡ fault_status fault) × (calls ≡ Listened address None ∷ Hired false ∷ []) × (back ≡ []))
-    ⊎ ((calls ≡ Listened address None ∷ Hired true ∷ []) × (length back ≡ 1))))
+-- the file of places at this path met a fault, or this line of its text does not read
+abbrev pub HasNoTable : List ℕ → Option ℕ → Status → List Asked → Type 0
+HasNoTable path None result calls = (met : OutsideFault) × (calls ≡ Placed path (Err met) ∷ []) × (result ≡ fault_status met)
+HasNoTable path (Some line) result calls = (text : List ℕ) × (calls ≡ Placed path (Ok text) ∷ []) × StopsAt text line
+    × (result ≡ status.Outside)
 
--- the status where the serving of the door ended so
-abbrev pub end_status : DoorEnd → Status
-end_status door_end.Closed = status.Done
-end_status door_end.Served = status.Done
-end_status door_end.Failed = status.Outside
-end_status door_end.Memory = status.Memory
+-- want of memory before it listened
+pub record WantsMemory (options : Options) (line : Option ℕ) (result : Status) (calls : List Asked) (back : List Tellings) : Type 0 where
+  pub asked : (calls ≡ []) ⊎ ((path : List ℕ) × (text : List ℕ) × (options.places ≡ Some path) × (calls ≡ Placed path (Ok text) ∷ []))
+  pub none_back : back ≡ []
+  pub no_line : line ≡ None
+  pub ends_so : result ≡ status.Memory
 
--- What a command with these options did: with `Done` all was served and the worker given back; it ended with `Outside`
--- only where the address does not read or the outside's count of faults rose.
-pub record IsCommand (options : Options) (old new : Option Diary) (returned returned' faults faults' : ℕ) (result : Status) : Type 0 where
-  pub done : result ≡ status.Done → ServesAll options old new
-  pub kind : (result ≡ status.Done) ⊎ ((result ≡ status.Memory) ⊎ (result ≡ status.Outside))
-  pub gave_back : result ≡ status.Done → returned' ≡ min (returned + 1) (2 ^ 64 - 1)
-  pub calls : (calls : List Asked) × (back : List Tellings) × DiaryGrows old new calls back × IsPlan options.address result calls back
-  pub outside : result ≡ status.Outside → (address_of options.address ≡ None) ⊎ Rose faults faults'
-  pub address : address_of options.address ≡ None → (result ≡ status.Outside) ⊎ (result ≡ status.Memory)
+-- there is no table of places
+pub record Misplaced (options : Options) (line : Option ℕ) (result : Status) (calls : List Asked) (back : List Tellings) : Type 0 where
+  pub path : List ℕ
+  pub is_path : options.places ≡ Some path
+  pub none : HasNoTable path line result calls
+  pub none_back : back ≡ []
 
--- a worker that was hired served a shift, and was given back
-pub record Shifted (settings : Settings) (table : List PlaceLine) (old new : Option Diary) (returned returned' faults faults' : ℕ) (result : Status) : Type 0 where
-  pub shift : Shift
-  pub history : History
-  pub tells : Tellings
-  pub one : IsOneHistory made (shift ∷ []) history
-  pub tell : IsShift settings table None shift tells
-  pub diary : DiaryGrows old new [] (tells ∷ [])
-  pub ends_so : result ≡ end_status shift.end
-  pub gave_back : returned' ≡ min (returned + 1) (2 ^ 64 - 1)
-  pub failed : result ≡ status.Outside → Rose faults faults'
-
--- no worker was given
-pub record Unhired (old new : Option Diary) (faults faults' : ℕ) (result : Status) : Type 0 where
+-- it does not listen at the address
+pub record Unheard (options : Options) (line : Option ℕ) (result : Status) (calls : List Asked) (back : List Tellings) : Type 0 where
+  pub asked : List Asked
+  pub places : List PlaceLine
+  pub placed : IsTable options.places asked places
   pub met : OutsideFault
-  pub other : met ≢ fault.BadAddress
+  pub called : calls ≡ asked ++ Listened options.address (Some met) ∷ []
+  pub none_back : back ≡ []
+  pub no_line : line ≡ None
   pub ends_so : result ≡ fault_status met
-  pub diary : DiaryGrows old new (Hired false ∷ []) []
-  pub failed : result ≡ status.Outside → Rose faults faults'
 
--- a worker was given, and served a shift
-pub record HiredOne (settings : Settings) (table : List PlaceLine) (old new : Option Diary) (returned returned' faults faults' : ℕ) (result : Status) : Type 0 where
+-- it listens; so many workers are given, and then no more: each is given back
+pub record Unmanned (options : Options) (line : Option ℕ) (result : Status) (calls : List Asked) (back : List Tellings) : Type 0 where
+  pub asked : List Asked
+  pub places : List PlaceLine
+  pub placed : IsTable options.places asked places
+  pub number : ℕ
+  pub why : Unhired
+  pub called : calls ≡ asked ++ Listened options.address None ∷ (replicate number (Hired true) ++ refused why)
+  pub as_many : length back ≡ number
+  pub no_line : line ≡ None
+  pub ends_so : result ≡ refused_status why
+
+-- it listens, and all workers are given and given back
+pub record Manned (options : Options) (line : Option ℕ) (calls : List Asked) (back : List Tellings) : Type 0 where
+  pub asked : List Asked
+  pub places : List PlaceLine
+  pub placed : IsTable options.places asked places
+  pub called : calls ≡ asked ++ Listened options.address None ∷ replicate options.workers (Hired true)
+  pub as_many : length back ≡ options.workers
+  pub no_line : line ≡ None
+
+abbrev pub IsPlan : Options → Option ℕ → Status → List Asked → List Tellings → Type 0
+IsPlan options line result calls back = WantsMemory options line result calls back
+    ⊎ (Misplaced options line result calls back
+    ⊎ (Unheard options line result calls back
+    ⊎ (Unmanned options line result calls back ⊎ Manned options line calls back)))
+
+-- ---- the command
+
+-- What becomes of the command of these options. `Outside` comes only where a line of the file of places does not read, which
+-- is this line, where the address does not read, or where the outside's count of faults rose.
+pub record IsCommand (options : Options) (old new : Option Diary) (returned returned' faults faults' : ℕ) (line : Option ℕ) (result : Status) : Type 0 where
+  pub done : result ≡ status.Done → ServesAll options old new
+  pub gave_back : result ≡ status.Done → GaveBack returned returned' options.workers
+  pub kind : (result ≡ status.Done) ⊎ ((result ≡ status.Memory) ⊎ (result ≡ status.Outside))
+  pub calls : (calls : List Asked) × (back : List Tellings) × DiaryGrows old new calls back × IsPlan options line result calls back
+  pub outside : result ≡ status.Outside → IsSome line ⊎ ((address_of options.address ≡ None) ⊎ Rose faults faults')
+  pub address : address_of options.address ≡ None → (result ≡ status.Outside) ⊎ (result ≡ status.Memory)
+  pub line : IfSome line (λ number. result ≡ status.Outside)
+
+-- ---- parts of it
+
+abbrev pub line_of : ServeEnd → Option ℕ
+line_of (serve_end.Ended result) = None
+line_of (serve_end.BadPlace line) = Some line
+
+abbrev pub status_at : ServeEnd → Status
+status_at (serve_end.Ended result) = result
+status_at (serve_end.BadPlace line) = status.Outside
+
+-- a text of places that does not read: at this line, or for want of memory
+abbrev pub IsUnread : List ℕ → ServeEnd → Type 0
+IsUnread text (serve_end.Ended result) = result ≡ status.Memory
+IsUnread text (serve_end.BadPlace line) = StopsAt text line
+
+-- the file at this path met a fault, or its text does not read
+abbrev pub StopsSo : List ℕ → List Asked → ℕ → ℕ → ServeEnd → Type 0
+StopsSo path calls faults faults' (serve_end.BadPlace line) = (text : List ℕ) × (calls ≡ Placed path (Ok text) ∷ []) × StopsAt text line
+StopsSo path calls faults faults' (serve_end.Ended result) =
+    ((text : List ℕ) × (calls ≡ Placed path (Ok text) ∷ []) × (result ≡ status.Memory))
+    ⊎ ((met : OutsideFault) × (calls ≡ Placed path (Err met) ∷ []) × (result ≡ fault_status met) × (met ≢ fault.BadAddress)
+    × (met ≡ fault.Failed → Rose faults faults'))
+
+-- there is no table of places: want of memory, a fault of the outside, or a line that does not read
+abbrev pub Stops : Option (List ℕ) → Option Diary → Option Diary → ℕ → ℕ → ServeEnd → Type 0
+Stops None old new faults faults' end = DiaryGrows old new [] [] × (end ≡ serve_end.Ended status.Memory)
+Stops (Some path) old new faults faults' end = (calls : List Asked) × DiaryGrows old new calls []
+    × StopsSo path calls faults faults' end
+
+-- listening met this fault
+pub record ListensNot (address : List ℕ) (old new : Option Diary) (returned returned' faults faults' : ℕ) (result : Status) : Type 0 where
+  pub met : OutsideFault
+  pub diary : DiaryGrows old new (Listened address (Some met) ∷ []) []
+  pub ends_so : result ≡ fault_status met
+  pub bad : met ≡ fault.BadAddress → address_of address ≡ None
+  pub failed : met ≡ fault.Failed → Rose faults faults'
+  pub unread : address_of address ≡ None → met ≡ fault.BadAddress
+
+-- it listens, and serves with the workers
+pub record ListensAndServes (address : List ℕ) (by : Made) (crew : Crew) (old new : Option Diary) (returned returned' faults faults' : ℕ) (result : Status) : Type 0 where
   pub middle : Option Diary
-  pub diary : DiaryGrows old middle (Hired true ∷ []) []
-  pub shifted : Shifted settings table middle new returned returned' faults faults' result
+  pub returned_then : ℕ
+  pub faults_then : ℕ
+  pub diary : DiaryGrows old middle (Listened address None ∷ []) []
+  pub reads : address_of address ≡ None → ⊥
+  pub same : returned_then ≡ returned
+  pub later : faults ≤ faults_then
+  pub serves : Serves by crew middle new returned_then returned' faults_then faults' result
 
-abbrev pub Hires : Settings → List PlaceLine → Option Diary → Option Diary → ℕ → ℕ → ℕ → ℕ → Status → Type 0
-Hires settings table old new returned returned' faults faults' result = Unhired old new faults faults' result
-    ⊎ HiredOne settings table old new returned returned' faults faults' result
+abbrev pub Listens : List ℕ → Made → Crew → Option Diary → Option Diary → ℕ → ℕ → ℕ → ℕ → Status → Type 0
+Listens address by crew old new returned returned' faults faults' result =
+    ListensNot address old new returned returned' faults faults' result
+    ⊎ ListensAndServes address by crew old new returned returned' faults faults' result
+
+-- with these places: want of memory before it listens, or it listens
+abbrev pub Places : Options → List PlaceLine → Option Diary → Option Diary → ℕ → ℕ → ℕ → ℕ → Status → Type 0
+Places options places old new returned returned' faults faults' result =
+    (DiaryGrows old new [] [] × (result ≡ status.Memory))
+    ⊎ Listens options.address (made_of options) (crew_of options places) old new returned returned' faults faults' result

@@ -3,7 +3,6 @@
 
 mod batch;
 mod note;
-mod options;
 mod serve;
 #[cfg(test)]
 mod tests;

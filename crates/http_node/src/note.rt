@@ -2,8 +2,10 @@
 
 ghost use Rattle.std.specs.Prelude.{◌≡◌, ◌+◌, ◌≤◌, ◌++◌, [], None, length, decimal};
 ghost use Rattle.cdni_base.specs.Scratch.{Room};
-ghost use Rattle.http_node.specs.Note.{bad_line_text, end_note, note_of, IsNoted};
+ghost use Rattle.http_node.specs.Serve.{line_of, status_at};
+ghost use Rattle.http_node.specs.Note.{bad_line_text, bad_place_text, end_note, note_of, serve_note, IsNoted};
 
+use crate::serve::ServeEnd;
 use cdni_base::Scratch;
 use edge_base::{Sink, Status, write_counted};
 use replay_script::ReplayEnd;
@@ -58,6 +60,26 @@ pub(crate) fn put_end_note(out: &mut Scratch, end: ReplayEnd)
         ReplayEnd::WriteFault => put(out, b"write fault\n"),
         ReplayEnd::Memory => put(out, WANT_OF_MEMORY),
     }
+}
+
+// puts the note of the end of serving into an empty scratch
+pub(crate) fn put_serve_note(out: &mut Scratch, end: ServeEnd)
+    requires { out.old ≡ record { text = []; room = NOTE_ROOM } }
+    ensures { out.new.text ≡ serve_note (status_at end) (line_of end) }
+{
+    match end {
+        ServeEnd::Ended(status) => put(out, status_note(status)),
+        ServeEnd::BadPlace(line) => put_bad_place(out, line),
+    }
+}
+
+fn put_bad_place(out: &mut Scratch, number: u64)
+    requires { out.old ≡ record { text = []; room = NOTE_ROOM } }
+    ensures { out.new.text ≡ bad_place_text number }
+{
+    put(out, b"places line ");
+    put_number(out, number);
+    put(out, b"\n");
 }
 
 fn put_bad_line(out: &mut Scratch, line: u64, at: u64)

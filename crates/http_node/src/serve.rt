@@ -1,41 +1,46 @@
 //! The command that serves connections.
 
-ghost use Rattle.std.specs.Prelude.{◌≡◌, ◌≤◌, ◌<◌, ◌↔◌, [], ◌∷◌, None, Some, IfOk};
-ghost use Rattle.doors.specs.Outside.{IsNew, tells_of};
-ghost use Rattle.history.specs.Event.{History};
+ghost use Rattle.std.specs.Prelude.{◌≡◌, ◌≤◌, ◌⊎◌, ℕ, List, [], None, Some, IfErr, IfOk};
+ghost use Rattle.std.specs.Option.{option_map};
+ghost use Rattle.std.specs.declared.option.Option.{Option};
+ghost use Rattle.doors.specs.Outside.{Asked, DiaryGrows};
+ghost use Rattle.http_node.specs.Note.{IsNoted, note_of, serve_note};
+ghost use Rattle.http_node.specs.Serve.{IsCommand, IsTable, IsUnread, Listens, Places, Stops, line_of, status_at};
+ghost use Rattle.location_acl.specs.Line.{AreLines};
 ghost use Rattle.node_core.specs.Node.{Stands};
-ghost use Rattle.targets.specs.declared.target.Target.{Target};
-ghost use Rattle.http_node.specs.Note.{IsNoted, note_of};
-ghost use Rattle.http_node.specs.Options.{Options, made, options_of, settings_of};
-ghost use Rattle.http_node.specs.Serve.{Hires, IsCommand, IsOneHistory, IsShift, Shift, Shifted, end_status, fault_status};
+ghost use Rattle.serve_words.specs.Options.{options_of};
 
-use crate::note::note_status;
-use crate::options::{RootRead, read_root, values};
-use cdni_base::{HostName, Limits, Protocol, ProviderId, Target, Text, TextList};
-use doors::law::what_visits_open_is_ended;
-use doors::{Door, DoorEnd, Outside, OutsideFault, Worker, serve_door};
-use edge_base::{Clock, Sink, Status};
+use crate::note::{NOTE_ROOM, note_status, put_serve_note, write_note};
+use cdni_base::{Scratch, Text};
+use doors::Outside;
+use edge_base::{Sink, Status};
 use location_acl::{PlaceFault, PlaceTable};
-use node_core::{Node, OneHome};
-use session::{AdvertSettings, Settings};
-use std::alloc::{AllocError, Global};
+use node_core::Node;
+use serve_words::{Options, OptionsRead, read_options};
+use session::Settings;
+use std::alloc::Global;
 use std::sync::Wait;
 use std::thread::Threads;
-use upstream_gate::Gate;
+use workers::{Crew, fault_status, serve_workers};
 
-// the host that log files claim, the host of the upstream CDN's requests, and the id of this CDN
-const ORIGIN: &[u8] = b"dcdn.example";
+/// How serving ended.
+#[derive(Clone, Copy, PartialEq, Eq)]
+pub(crate) enum ServeEnd {
+    /// With this status.
+    Ended(Status),
+    /// This line of the file of places, counted from 1, does not read.
+    BadPlace(u64),
+}
 
-const CONTROL: &[u8] = b"control.example";
-
-const OWN: &[u8] = b"AS64496:0";
-
-/// Serves as the words say, those after the program's name: `serve --listen A --metadata U`, with U an absolute `http` URL.
-/// It listens at A, takes one worker from `outside`, serves the connections of its door, and gives it back. It may wait, and
-/// need not return. One line on how it ended, but for `Done`, goes to `notes`; where that fails nothing else changes.
+/// Serves as the words say, those after the program's name: `serve` and its options. It reads the file of places, where one
+/// is named, listens at the address, takes as many workers from `outside` as are asked for, serves the connections of each
+/// worker's door in a thread of its own over one node, and gives the workers back in order; the first fault ends it. It may
+/// wait, and need not return. One line on how it ended, but for `Done`, goes to `notes`; where that fails nothing else
+/// changes.
 ///
-/// The status is `Usage` exactly where the words are not these; `Outside` only where A does not read as an address or the
-/// outside's count of faults rose; `Memory` for want of memory; and else `Done`, when the door has no connection left.
+/// The status is `Usage` only where the words are no command; `Outside` only where the address does not read, a line of the
+/// file of places does not read, or the outside's count of faults rose; `Memory` for want of memory; and else `Done`, when
+/// each door has no connection left or gave as many as asked for.
 pub fn serve_main<R: Threads + Wait + Sync, O: Outside, E: Sink>(
     rt: &R,
     alloc: Global,
@@ -43,41 +48,60 @@ pub fn serve_main<R: Threads + Wait + Sync, O: Outside, E: Sink>(
     outside: &mut O,
     notes: &mut E,
 ) -> Status
-    ensures usage { (result ≡ Status.Usage) ↔ (options_of words.now ≡ None) }
-    ensures untouched { result ≡ Status.Usage → outside.new ≡ outside.old }
-    ensures command { (options : Options) → options_of words.now ≡ Some options
-        → IsCommand options (O.diary outside.old) (O.diary outside.new) (O.returned outside.old) (O.returned outside.new)
-        (O.faults outside.old) (O.faults outside.new) result }
+    ensures usage { result ≡ Status.Usage → options_of words.now ≡ None }
+    ensures no_command { options_of words.now ≡ None → (result ≡ Status.Usage) ⊎ (result ≡ Status.Memory) }
+    ensures untouched { options_of words.now ≡ None → outside.new ≡ outside.old }
+    ensures usage_noted { options_of words.now ≡ None
+        → IsNoted (E.held notes.old) (E.held notes.new) (E.faults notes.old) (E.faults notes.new) (note_of result None) }
+    ensures command { (options : _) → options_of words.now ≡ Some options → (line : Option ℕ)
+        × IsCommand options (O.diary outside.old) (O.diary outside.new) (O.returned outside.old) (O.returned outside.new)
+        (O.faults outside.old) (O.faults outside.new) line result
+        × IsNoted (E.held notes.old) (E.held notes.new) (E.faults notes.old) (E.faults notes.new) (serve_note result line) }
     ensures later { O.faults outside.old ≤ O.faults outside.new }
-    ensures noted { IsNoted (E.held notes.old) (E.held notes.new) (E.faults notes.old) (E.faults notes.new)
-        (note_of result None) }
 {
-    let status = serve_words(rt, alloc, words, outside);
-    note_status(notes, status);
-    status
+    match read_options(alloc, words) {
+        OptionsRead::Options(options) => serve_noted(rt, alloc, options, outside, notes),
+        OptionsRead::NotOne => {
+            note_status(notes, Status::Usage);
+            Status::Usage
+        }
+        OptionsRead::Memory => {
+            note_status(notes, Status::Memory);
+            Status::Memory
+        }
+    }
 }
 
-// serves as the words say
-fn serve_words<R: Threads + Wait + Sync, O: Outside>(
+// serves under these options, and notes how that ended
+fn serve_noted<R: Threads + Wait + Sync, O: Outside, E: Sink>(
     rt: &R,
     alloc: Global,
-    words: &[String],
+    options: Options,
     outside: &mut O,
+    notes: &mut E,
 ) -> Status
-    ensures usage { (result ≡ Status.Usage) ↔ (options_of words.now ≡ None) }
-    ensures untouched { result ≡ Status.Usage → outside.new ≡ outside.old }
-    ensures command { (options : Options) → options_of words.now ≡ Some options
-        → IsCommand options (O.diary outside.old) (O.diary outside.new) (O.returned outside.old) (O.returned outside.new)
-        (O.faults outside.old) (O.faults outside.new) result }
+    ensures command { (line : Option ℕ)
+        × IsCommand options (O.diary outside.old) (O.diary outside.new) (O.returned outside.old) (O.returned outside.new)
+        (O.faults outside.old) (O.faults outside.new) line result
+        × IsNoted (E.held notes.old) (E.held notes.new) (E.faults notes.old) (E.faults notes.new) (serve_note result line) }
     ensures later { O.faults outside.old ≤ O.faults outside.new }
 {
-    let Some((address, url)) = values(words) else {
-        return Status::Usage;
+    let Ok(mut note) = Scratch::new(alloc, NOTE_ROOM) else {
+        note_status(notes, Status::Memory);
+        return Status::Memory;
     };
-    match read_root(alloc, url) {
-        RootRead::Root(root) => serve_options(rt, alloc, address, root, outside),
-        RootRead::NotOne => Status::Usage,
-        RootRead::Memory => Status::Memory,
+    let end = serve_options(rt, alloc, options, outside);
+    put_serve_note(&mut note, end);
+    write_note(notes, note.bytes());
+    status_at(end)
+}
+
+fn status_at(end: ServeEnd) -> Status
+    ensures { result ≡ status_at end }
+{
+    match end {
+        ServeEnd::Ended(status) => status,
+        ServeEnd::BadPlace(_) => Status::Outside,
     }
 }
 
@@ -85,196 +109,127 @@ fn serve_words<R: Threads + Wait + Sync, O: Outside>(
 fn serve_options<R: Threads + Wait + Sync, O: Outside>(
     rt: &R,
     alloc: Global,
-    address: &[u8],
-    root: Target,
+    options: Options,
     outside: &mut O,
-) -> Status
-    ensures command { IsCommand (record { address = address.now; root = root }) (O.diary outside.old) (O.diary outside.new)
-        (O.returned outside.old) (O.returned outside.new) (O.faults outside.old) (O.faults outside.new) result }
+) -> ServeEnd
+    ensures command { IsCommand options (O.diary outside.old) (O.diary outside.new) (O.returned outside.old)
+        (O.returned outside.new) (O.faults outside.old) (O.faults outside.new) (line_of result) (status_at result) }
     ensures later { O.faults outside.old ≤ O.faults outside.new }
 {
-    match make_ready(alloc, root) {
-        Ok(mut ready) => serve_ready(rt, alloc, address, &mut ready, outside),
-        Err(_) => Status::Memory,
+    match find_places(rt, alloc, options.places.as_ref(), outside) {
+        Ok(places) => ServeEnd::Ended(serve_placed(rt, alloc, options, places, outside)),
+        Err(end) => end,
     }
 }
 
-// What a worker needs beside the outside.
-#[derive(Drop)]
-struct Ready {
-    home: OneHome,
-    settings: Settings,
+// the table of places of the file at this path, or of an empty text
+fn find_places<R: Threads + Wait + Sync, O: Outside>(
+    rt: &R,
+    alloc: Global,
+    path: Option<&Text>,
+    outside: &mut O,
+) -> Result<PlaceTable, ServeEnd>
+    ensures found { IfOk result (λ places. (asked : List Asked)
+        × IsTable (option_map (λ path. path.now) path.entry) asked places
+        × DiaryGrows (O.diary outside.old) (O.diary outside.new) asked []) }
+    ensures none { IfErr result (λ end. Stops (option_map (λ path. path.now) path.entry) (O.diary outside.old)
+        (O.diary outside.new) (O.faults outside.old) (O.faults outside.new) end) }
+    ensures returned { O.returned outside.new ≡ O.returned outside.old }
+    ensures later { O.faults outside.old ≤ O.faults outside.new }
+{
+    match path {
+        Some(path) => ask_places(rt, alloc, path, outside),
+        None => no_places(alloc),
+    }
+}
+
+// the table of places of the file at this path
+fn ask_places<R: Threads + Wait + Sync, O: Outside>(
+    rt: &R,
+    alloc: Global,
+    path: &Text,
+    outside: &mut O,
+) -> Result<PlaceTable, ServeEnd>
+    ensures found { IfOk result (λ places. (asked : List Asked) × IsTable (Some path.now) asked places
+        × DiaryGrows (O.diary outside.old) (O.diary outside.new) asked []) }
+    ensures none { IfErr result (λ end. Stops (Some path.now) (O.diary outside.old) (O.diary outside.new)
+        (O.faults outside.old) (O.faults outside.new) end) }
+    ensures returned { O.returned outside.new ≡ O.returned outside.old }
+    ensures later { O.faults outside.old ≤ O.faults outside.new }
+{
+    match outside.places(rt, alloc, path.bytes()) {
+        Ok(text) => read_places(alloc, text.bytes()),
+        Err(fault) => Err(ServeEnd::Ended(fault_status(fault))),
+    }
+}
+
+// the table of places of this text
+fn read_places(alloc: Global, text: &[u8]) -> Result<PlaceTable, ServeEnd>
+    ensures found { IfOk result (λ places. AreLines text.now places) }
+    ensures none { IfErr result (λ end. IsUnread text.now end) }
+{
+    match PlaceTable::read(alloc, text) {
+        Ok(table) => Ok(table),
+        Err(PlaceFault::BadLine { line }) => Err(ServeEnd::BadPlace(line)),
+        Err(PlaceFault::Memory) => Err(ServeEnd::Ended(Status::Memory)),
+    }
+}
+
+// the table of places of an empty text
+fn no_places(alloc: Global) -> Result<PlaceTable, ServeEnd>
+    ensures found { IfOk result (λ places. AreLines [] places) }
+    ensures none { IfErr result (λ end. end ≡ ServeEnd.Ended Status.Memory) }
+{
+    read_places(alloc, b"")
+}
+
+// serves under these options, with these places
+fn serve_placed<R: Threads + Wait + Sync, O: Outside>(
+    rt: &R,
+    alloc: Global,
+    options: Options,
     places: PlaceTable,
-}
-
-// a node that stands for no call, the settings, and the table of no places
-fn make_ready(alloc: Global, root: Target) -> Result<Ready, AllocError>
-    ensures stands { IfOk result (λ ready. Stands ready.home.node made []) }
-    ensures made { IfOk result (λ ready. ready.home.node.made ≡ made) }
-    ensures number { IfOk result (λ ready. ready.home.number ≡ 0) }
-    ensures settings { IfOk result (λ ready. ready.settings ≡ settings_of root) }
-    ensures places { IfOk result (λ ready. ready.places ≡ []) }
+    outside: &mut O,
+) -> Status
+    ensures placed { Places options places (O.diary outside.old) (O.diary outside.new) (O.returned outside.old)
+        (O.returned outside.new) (O.faults outside.old) (O.faults outside.new) result }
+    ensures later { O.faults outside.old ≤ O.faults outside.new }
 {
-    let settings = make_settings(alloc, root)?;
-    let places = no_places(alloc)?;
-    let home = make_home(alloc)?;
-    Ok(Ready {
-        home,
-        settings,
+    let address = options.address;
+    let Ok(node) = Node::new(alloc, &options.limits, options.origin.0) else {
+        return Status::Memory;
+    };
+    let crew = Crew {
+        workers: options.workers,
+        connections: options.connections,
         places,
-    })
-}
-
-// a home over a node that stands for no call
-fn make_home(alloc: Global) -> Result<OneHome, AllocError>
-    ensures stands { IfOk result (λ home. Stands home.node made []) }
-    ensures made { IfOk result (λ home. home.node.made ≡ made) }
-    ensures number { IfOk result (λ home. home.number ≡ 0) }
-{
-    let origin = Text::of(alloc, ORIGIN)?;
-    let node = Node::new(alloc, &Limits::standard(), origin)?;
-    Ok(OneHome { node, number: 0 })
-}
-
-// what holds for all connections
-fn make_settings(alloc: Global, root: Target) -> Result<Settings, AllocError>
-    ensures { IfOk result (λ settings. settings ≡ settings_of root) }
-{
-    let control = HostName(Text::of(alloc, CONTROL)?);
-    let own = ProviderId(Text::of(alloc, OWN)?);
-    let protocol = Protocol::Http;
-    match AdvertSettings::new(protocol, TextList::new(alloc)) {
-        Some(advert) => Ok(Settings {
-            protocol,
-            control,
-            root,
-            own,
-            advert,
-        }),
-        None => unreachable!(),
-    }
-}
-
-// the table of an empty text
-fn no_places(alloc: Global) -> Result<PlaceTable, AllocError>
-    ensures { IfOk result (λ places. places ≡ []) }
-{
-    match PlaceTable::read(alloc, b"") {
-        Ok(places) => Ok(places),
-        Err(PlaceFault::Memory) => Err(AllocError),
-        Err(PlaceFault::BadLine { line: _ }) => unreachable!(),
-    }
+        settings: Settings {
+            protocol: options.advert.protocol,
+            control: options.control,
+            root: options.root,
+            own: options.own,
+            advert: options.advert,
+        },
+    };
+    serve_listening(rt, alloc, address.bytes(), node, &crew, outside)
 }
 
 // listens, and serves
-fn serve_ready<R: Threads + Wait + Sync, O: Outside>(
+fn serve_listening<R: Threads + Wait + Sync, O: Outside>(
     rt: &R,
     alloc: Global,
     address: &[u8],
-    ready: &mut Ready,
+    node: Node,
+    crew: &Crew,
     outside: &mut O,
 ) -> Status
-    requires stands { Stands ready.old.home.node made [] }
-    requires made { ready.old.home.node.made ≡ made }
-    requires number { ready.old.home.number ≡ 0 }
-    requires places { ready.old.places ≡ [] }
-    ensures command { (root : Target) → ready.old.settings ≡ settings_of root
-        → IsCommand (record { address = address.now; root = root }) (O.diary outside.old) (O.diary outside.new)
+    requires fresh { Stands node node.made [] }
+    ensures listens { Listens address.now node.made crew.now (O.diary outside.old) (O.diary outside.new)
         (O.returned outside.old) (O.returned outside.new) (O.faults outside.old) (O.faults outside.new) result }
     ensures later { O.faults outside.old ≤ O.faults outside.new }
 {
     match outside.listen(rt, alloc, address) {
-        Ok(()) => hire(rt, alloc, ready, outside),
+        Ok(()) => serve_workers(rt, alloc, node, crew, outside),
         Err(fault) => fault_status(fault),
-    }
-}
-
-// hires a worker, and serves
-fn hire<R: Threads + Wait + Sync, O: Outside>(
-    rt: &R,
-    alloc: Global,
-    ready: &mut Ready,
-    outside: &mut O,
-) -> Status
-    requires stands { Stands ready.old.home.node made [] }
-    requires made { ready.old.home.node.made ≡ made }
-    requires number { ready.old.home.number ≡ 0 }
-    ensures hires { Hires ready.old.settings ready.old.places (O.diary outside.old) (O.diary outside.new)
-        (O.returned outside.old) (O.returned outside.new) (O.faults outside.old) (O.faults outside.new) result }
-    ensures later { O.faults outside.old ≤ O.faults outside.new }
-{
-    match outside.worker(rt, alloc) {
-        Ok(worker) => serve_hired(rt, alloc, ready, worker, outside),
-        Err(fault) => fault_status(fault),
-    }
-}
-
-// serves the connections of a worker, and gives it back
-fn serve_hired<R: Threads + Wait + Sync, O: Outside>(
-    rt: &R,
-    alloc: Global,
-    ready: &mut Ready,
-    worker: Worker<O::D, O::G, O::C>,
-    outside: &mut O,
-) -> Status
-    requires stands { Stands ready.old.home.node made [] }
-    requires made { ready.old.home.node.made ≡ made }
-    requires number { ready.old.home.number ≡ 0 }
-    requires fresh { IsNew (tells_of O.D.book O.D.faults O.G.exchanges O.C.given worker) }
-    ensures shifted { Shifted ready.old.settings ready.old.places (O.diary outside.old) (O.diary outside.new)
-        (O.returned outside.old) (O.returned outside.new) (O.faults outside.old) (O.faults outside.new) result }
-    ensures later { O.faults outside.old ≤ O.faults outside.new }
-{
-    let mut worker = worker;
-    let end = serve_worker(
-        rt,
-        alloc,
-        &mut ready.home,
-        &mut worker,
-        &ready.places,
-        &ready.settings,
-    );
-    outside.give_back(worker);
-    end_status(end)
-}
-
-// serves the connections of a worker through a home of its own
-fn serve_worker<R: Threads + Wait + Sync, D: Door, G: Gate, C: Clock>(
-    rt: &R,
-    alloc: Global,
-    home: &mut OneHome,
-    worker: &mut Worker<D, G, C>,
-    places: &PlaceTable,
-    settings: &Settings,
-) -> DoorEnd
-    requires stands { Stands home.old.node made [] }
-    requires made { home.old.node.made ≡ made }
-    requires number { home.old.number ≡ 0 }
-    requires fresh { IsNew (tells_of D.book D.faults G.exchanges C.given worker.old) }
-    ensures shift { (shift : Shift) × (h : History) × IsOneHistory made (shift ∷ []) h
-        × IsShift settings.now places.now None shift (tells_of D.book D.faults G.exchanges C.given worker.new)
-        × (shift.end ≡ result) }
-    ensures failed { result ≡ DoorEnd.Failed → 0 < D.faults worker.new.door }
-{
-    what_visits_open_is_ended();
-    serve_door(rt, alloc, home, worker, places, settings, None)
-}
-
-fn fault_status(fault: OutsideFault) -> Status
-    ensures { result ≡ fault_status fault }
-{
-    match fault {
-        OutsideFault::BadAddress | OutsideFault::Failed => Status::Outside,
-        OutsideFault::Memory => Status::Memory,
-    }
-}
-
-fn end_status(end: DoorEnd) -> Status
-    ensures { result ≡ end_status end }
-{
-    match end {
-        DoorEnd::Closed | DoorEnd::Served => Status::Done,
-        DoorEnd::Failed => Status::Outside,
-        DoorEnd::Memory => Status::Memory,
     }
 }

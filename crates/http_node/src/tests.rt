@@ -54,23 +54,34 @@ fn worker(alloc: Global) -> Result<MemoryWorker, Fail>
     Ok(Worker { door, gate, clock })
 }
 
+fn words_of(alloc: Global, texts: &[&str]) -> Result<Vec<String>, Fail> {
+    let mut words: Vec<String> = Vec::new(alloc);
+    for text in texts {
+        words.push(String::from_str(alloc, text)?)?;
+    }
+    Ok(words)
+}
+
+const WORDS: [&str; 9] = [
+    "serve",
+    "--listen",
+    "127.0.0.1:0",
+    "--metadata",
+    "http://up.example/i",
+    "--workers",
+    "1",
+    "--places",
+    "places.txt",
+];
+
 #[test]
 fn a_worker_serves_and_is_given_back(rt: HostRuntime) -> Result<(), Fail> {
     let alloc = rt.alloc();
     let mut workers = WorkerList::new(alloc);
     workers.push(worker(alloc)?)?;
-    let mut outside = MemoryOutside::new(alloc, workers)?;
+    let mut outside = MemoryOutside::new(alloc, workers, b"192.0.2.0/24 as64500 us\n")?;
     let mut notes = MemorySink::new(alloc, &[])?;
-    let mut words: Vec<String> = Vec::new(alloc);
-    for word in [
-        "serve",
-        "--listen",
-        "127.0.0.1:0",
-        "--metadata",
-        "http://up.example/i",
-    ] {
-        words.push(String::from_str(alloc, word)?)?;
-    }
+    let words = words_of(alloc, &WORDS)?;
     let status = serve_main(&rt, alloc, &words, &mut outside, &mut notes);
     assert_eq!(rt; status, Status::Done);
     assert_eq!(rt; notes.held(), b"".as_slice());
@@ -83,5 +94,18 @@ fn a_worker_serves_and_is_given_back(rt: HostRuntime) -> Result<(), Fail> {
     };
     assert!(rt; ends.sink.held().starts_with(b"HTTP/1.1 200 OK\r\n"));
     assert!(rt; ends.sink.held().ends_with(b"\r\n\r\nhello"));
+    Ok(())
+}
+
+#[test]
+fn a_line_that_does_not_read_is_noted(rt: HostRuntime) -> Result<(), Fail> {
+    let alloc = rt.alloc();
+    let workers = WorkerList::new(alloc);
+    let mut outside = MemoryOutside::new(alloc, workers, b"192.0.2.0/24 as64500 us\n\n")?;
+    let mut notes = MemorySink::new(alloc, &[])?;
+    let words = words_of(alloc, &WORDS)?;
+    let status = serve_main(&rt, alloc, &words, &mut outside, &mut notes);
+    assert_eq!(rt; status, Status::Outside);
+    assert_eq!(rt; notes.held(), b"places line 2\n".as_slice());
     Ok(())
 }

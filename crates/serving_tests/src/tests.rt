@@ -9,6 +9,7 @@ use session::{AdvertSettings, Settings};
 use std::alloc::Global;
 use std::io::{Read, Write};
 use std::net::{Net, Shutdown, SocketAddr, TcpListener, TcpStream};
+use std::rt::Files;
 use std::sync::Wait;
 use std::sync::atomic::{AtomicU64, Ordering};
 use std::test::Fail;
@@ -484,6 +485,7 @@ fn serve_crowd<
         + Sync
         + Net<Listener = TcpListener, Stream = TcpStream>
         + time::Clock
+        + Files
         + Clone
         + Send
         + Drop,

@@ -1,8 +1,6 @@
 //! The outside over TCP and the clock of the machine.
 
-ghost use Rattle.std.specs.Prelude.{◌≡◌, ◌≢◌, ◌≤◌, length, Err, None, IfOk};
-ghost use Rattle.doors.specs.Outside.{HasFaultCause};
-ghost use Rattle.tcp_door.specs.declared.place_file.TheConstants.{PLACES_MAX};
+ghost use Rattle.std.specs.Prelude.{◌≡◌, ◌≤◌, None, IfOk};
 ghost use Rattle.edge_base.specs.Causes.{next_count};
 
 use crate::door::TcpDoor;
@@ -102,28 +100,6 @@ impl<N: Net<Listener = TcpListener, Stream = TcpStream> + Wait + Clock + Clone +
     }
 }
 
-impl<
-    N: Net<Listener = TcpListener, Stream = TcpStream> + Wait + Clock + Files + Clone + Drop,
-> StdOutside<N> {
-    /// The text of the place file of this name, which has at most 67,108,864 bytes.
-    ///
-    /// # Errors
-    /// A fault, which is counted, where the file cannot be read or has more bytes. Want of memory.
-    pub fn places(&mut self, alloc: Global, path: &[u8]) -> Result<Text, OutsideFault>
-        ensures most { IfOk result (λ text. length text ≤ PLACES_MAX) }
-        ensures later { self.old.faults ≤ self.new.faults }
-        ensures cause { HasFaultCause self.old.faults self.new.faults result }
-        ensures address { result ≢ Err OutsideFault.BadAddress }
-        ensures returned { self.new.returned ≡ self.old.returned }
-    {
-        match read_file(&self.net, alloc, path) {
-            Ok(text) => Ok(text),
-            Err(OutsideFault::Failed) => Err(self.fault()),
-            Err(other) => Err(other),
-        }
-    }
-}
-
 // the address and the port
 fn address(ip: Ip, port: u16) -> SocketAddr {
     match ip {
@@ -133,11 +109,12 @@ fn address(ip: Ip, port: u16) -> SocketAddr {
 }
 
 impl<
-    N: Net<Listener = TcpListener, Stream = TcpStream> + Wait + Clock + Clone + Send + Drop,
+    N: Net<Listener = TcpListener, Stream = TcpStream> + Wait + Clock + Files + Clone + Send + Drop,
 > Outside for StdOutside<N> {
-    ghost use Rattle.std.specs.Prelude.{◌+◌, ◌-◌, ◌^◌, ◌<◌, ◌↔◌, [], ◌∷◌, min, IfOk, is_ok};
+    ghost use Rattle.std.specs.Prelude.{◌+◌, ◌-◌, ◌^◌, ◌<◌, ◌≤◌, ◌≡◌, ◌≢◌, ◌↔◌, [], ◌∷◌, None, Err, length, min, IfOk, is_ok};
     ghost use Rattle.edge_base.specs.Causes.{Rose};
-    ghost use Rattle.doors.specs.Outside.{IsNew, tells_of};
+    ghost use Rattle.doors.specs.Outside.{HasFaultCause, IsNew, tells_of};
+    ghost use Rattle.tcp_door.specs.declared.place_file.TheConstants.{PLACES_MAX};
 
     type D = TcpDoor<N>;
 
@@ -184,6 +161,26 @@ impl<
         match made {
             Ok(worker) => Ok(worker),
             Err(_) => Err(OutsideFault::Memory),
+        }
+    }
+
+    /// The text of the file of this name, which has at most 67,108,864 bytes: where it cannot be read or has more, a fault.
+    fn places<R: Threads + Wait + Sync>(
+        &mut self,
+        _rt: &R,
+        alloc: Global,
+        path: &[u8],
+    ) -> Result<Text, OutsideFault>
+        ensures most { IfOk result (λ text. length text ≤ PLACES_MAX) }
+        ensures returned { self.new.returned ≡ self.old.returned }
+        ensures later { self.old.faults ≤ self.new.faults }
+        ensures cause { HasFaultCause self.old.faults self.new.faults result }
+        ensures address { result ≢ Err OutsideFault.BadAddress }
+    {
+        match read_file(&self.net, alloc, path) {
+            Ok(text) => Ok(text),
+            Err(OutsideFault::Failed) => Err(self.fault()),
+            Err(other) => Err(other),
         }
     }
 

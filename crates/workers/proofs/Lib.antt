@@ -1,0 +1,5 @@
+pub mod CrewLemmas
+pub mod FinishingLemmas
+pub mod HiringLemmas
+pub mod JobLemmas
+pub mod SendLemmas

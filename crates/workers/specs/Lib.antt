@@ -1,0 +1,4 @@
+pub mod Crew
+pub mod Finishing
+pub mod Hiring
+pub mod Job

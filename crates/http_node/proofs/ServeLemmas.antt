@@ -1,6 +1,9 @@
 -- The command that serves.
 use Rattle.std.proofs.Common.{◌≡◌, ◌≢◌, ◌⊎◌, ℕ, ◌+◌, ◌≤◌, List, [], ◌∷◌, ◌++◌, All, length, None, Some, refl, sym, ◌∙◌, ap, subst, inl, inr, arith, append-nil, length-append, true}
-use Rattle.std.specs.Prelude.{replicate, Ok, Err, IsSome}
+use Rattle.std.proofs.lemmas.Option.{same_Some}
+use Rattle.std.specs.Prelude.{replicate, Ok, Err, IsSome, String}
+use Rattle.std.specs.declared.alloc.Global.{Global}
+use Rattle.std.specs.declared.result.Result.{Result}
 use Rattle.std.specs.declared.option.Option.{Option}
 use Rattle.doors.specs.Address.{address_of}
 use Rattle.doors.specs.Outside.{Asked, Diary, DiaryGrows, HasFaultCause, Hired, Listened, Placed, Tellings}
@@ -11,6 +14,7 @@ use Rattle.edge_base.specs.declared.status.Status.{Status}
 use Rattle.edge_base.specs.declared.status.Status.TheVariants as status
 use Rattle.location_acl.specs.Line.{AreLines, StopsAt}
 use Rattle.location_acl.specs.declared.line.PlaceLine.{PlaceLine}
+use Rattle.serve_words.specs.Options.{options_of}
 use Rattle.serve_words.specs.declared.options.Options.{Options}
 use Rattle.session_base.specs.declared.settings.Settings.{Settings}
 use Rattle.workers.proofs.CrewLemmas.{IsEnd, is_end}
@@ -71,6 +75,29 @@ pub failed_rose : {A : Type 0} (a b : ℕ) (met : OutsideFault) → HasFaultCaus
 failed_rose a b fault.BadAddress cause is = absurd (cc)
 failed_rose a b fault.Failed cause is = cause
 failed_rose a b fault.Memory cause is = absurd (cc)
+
+pub err_same : {A : Type 0} (a b : OutsideFault) → ◌≡◌ {A = Result A OutsideFault} (Err a) (Err b) → a ≡ b
+err_same a b is = cc
+
+pub not_usage : (result : Status) → (result ≡ status.Done) ⊎ ((result ≡ status.Memory) ⊎ (result ≡ status.Outside)) → result ≡ status.Usage → ⊥
+not_usage result (inl done) is = no (sym done ∙ is)
+  where
+    no : status.Done ≡ status.Usage → ⊥
+    no e = cc
+not_usage result (inr (inl memory)) is = no (sym memory ∙ is)
+  where
+    no : status.Memory ≡ status.Usage → ⊥
+    no e = cc
+not_usage result (inr (inr outside)) is = no (sym outside ∙ is)
+  where
+    no : status.Outside ≡ status.Usage → ⊥
+    no e = cc
+
+-- the options that the words say are those that were read
+pub as_read : (options other : Options) (words : List (String Global)) → options_of words ≡ Some options → options_of words ≡ Some other → (old new : Option Diary) (returned returned' faults faults' : ℕ) (result : Status) (noted : Option ℕ → Type 0)
+    → ((line : Option ℕ) × IsCommand options old new returned returned' faults faults' line result × noted line) → (line : Option ℕ) × IsCommand other old new returned returned' faults faults' line result × noted line
+as_read options other words one two old new returned returned' faults faults' result noted is =
+    subst (λ (o : Options). (line : Option ℕ) × IsCommand o old new returned returned' faults faults' line result × noted line) (same_Some options other (sym one ∙ two)) is
 
 -- ---- there is no table of places
 

@@ -196,20 +196,22 @@ fn serve_placed<R: Threads + Wait + Sync, O: Outside>(
     ensures later { O.faults outside.old ≤ O.faults outside.new }
 {
     let address = options.address;
+    let connections = options.connections;
+    let settings = Settings {
+        protocol: options.advert.protocol,
+        control: options.control,
+        root: options.root,
+        own: options.own,
+        advert: options.advert,
+    };
     let Ok(node) = Node::new(alloc, &options.limits, options.origin.0) else {
         return Status::Memory;
     };
     let crew = Crew {
         workers: options.workers,
-        connections: options.connections,
+        connections,
         places,
-        settings: Settings {
-            protocol: options.advert.protocol,
-            control: options.control,
-            root: options.root,
-            own: options.own,
-            advert: options.advert,
-        },
+        settings,
     };
     serve_listening(rt, alloc, address.bytes(), node, &crew, outside)
 }

@@ -18,7 +18,7 @@ use turn_cell::{Pass, PassList};
 
 /// Why a worker was not hired.
 #[derive(Clone, Copy, PartialEq, Eq)]
-pub(crate) enum Unhired {
+pub enum Unhired {
     /// No memory was found for it, and the outside was not asked.
     Memory,
     /// The outside met this fault.

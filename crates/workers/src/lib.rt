@@ -8,3 +8,4 @@ mod hiring;
 mod job;
 
 pub use crew::{Crew, fault_status, serve_workers};
+pub use hiring::Unhired;

@@ -10,7 +10,7 @@ use Rattle.history.specs.History.{AnsweredAt, reply_to}
 use Rattle.history.specs.Laws.{ends_delivery, ends_fetch, ends_refresh}
 use Rattle.history.specs.declared.reply.Reply.{Reply}
 use Rattle.node_core.specs.Home.{AreOthers, Who}
-use Rattle.session.specs.Doing.{Any, Called, Makes, Told}
+use Rattle.session_base.specs.Doing.{Any, Called, Makes, Told}
 use Rattle.session.specs.Ended.{AllEnded, IsEndedIn, opened_delivery, opened_fetch, opened_refresh}
 use Rattle.doors.specs.Ended.{EndsItsOwn, EndsSince}
 

@@ -12,12 +12,12 @@ use Rattle.history.specs.Event.{History}
 use Rattle.location_acl.specs.declared.line.PlaceLine.{PlaceLine}
 use Rattle.location_acl.specs.declared.footprint.Place.{Place}
 use Rattle.node_core.specs.Home.{Who}
-use Rattle.session.proofs.DoingLemmas.{makes_none, makes_then}
-use Rattle.session.specs.Doing.{Any, Doing, Makes, Told}
+use Rattle.session_base.proofs.DoingLemmas.{makes_none, makes_then}
+use Rattle.session_base.specs.Doing.{Any, Doing, Makes, Told}
 use Rattle.session.specs.Ended.{AllEnded}
 use Rattle.session.specs.Session.{Session}
-use Rattle.session.specs.declared.ending.Ending.{Ending}
-use Rattle.session.specs.declared.settings.Settings.{Settings}
+use Rattle.session_base.specs.declared.ending.Ending.{Ending}
+use Rattle.session_base.specs.declared.settings.Settings.{Settings}
 use Rattle.upstream_gate.proofs.PlanLemmas.{grows_none, grows_on}
 use Rattle.upstream_gate.specs.Outcome.{Exchange}
 use Rattle.doors.proofs.EndedLemmas.{all_then, since}

@@ -10,11 +10,11 @@ use Rattle.location_acl.specs.Table.{GivesPlace}
 use Rattle.location_acl.specs.declared.footprint.Place.{Place}
 use Rattle.location_acl.specs.declared.line.PlaceLine.{PlaceLine}
 use Rattle.node_core.specs.Home.{Who}
-use Rattle.session.specs.Doing.{Any, Called, Doing, Makes}
+use Rattle.session_base.specs.Doing.{Any, Called, Doing, Makes}
 use Rattle.session.specs.Session.{Leaves, Session}
-use Rattle.session.specs.declared.ending.Ending.{Ending}
-use Rattle.session.specs.declared.ending.Ending.TheVariants as ending
-use Rattle.session.specs.declared.settings.Settings.{Settings}
+use Rattle.session_base.specs.declared.ending.Ending.{Ending}
+use Rattle.session_base.specs.declared.ending.Ending.TheVariants as ending
+use Rattle.session_base.specs.declared.settings.Settings.{Settings}
 use Rattle.upstream_gate.specs.Outcome.{Exchange}
 use Rattle.doors.specs.Door.{Book, Gave, Given, Passed, Shut, Took}
 use Rattle.doors.specs.declared.serve.DoorEnd.{DoorEnd}

@@ -6,8 +6,8 @@ ghost use Rattle.std.specs.List.{flat_map};
 ghost use Rattle.history.specs.Event.{History};
 ghost use Rattle.location_acl.specs.declared.line.PlaceLine.{PlaceLine};
 ghost use Rattle.node_core.specs.Home.{Who};
-ghost use Rattle.session.specs.Doing.{Told};
-ghost use Rattle.session.specs.declared.settings.Settings.{Settings};
+ghost use Rattle.session_base.specs.Doing.{Told};
+ghost use Rattle.session_base.specs.declared.settings.Settings.{Settings};
 ghost use Rattle.doors.specs.Ended.{EndsItsOwn};
 ghost use Rattle.doors.specs.Visit.{IsVisit, Visit, calls_of};
 

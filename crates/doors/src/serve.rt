@@ -5,7 +5,7 @@ ghost use Rattle.std.specs.Option.{option_map};
 ghost use Rattle.edge_base.specs.Causes.{Rose};
 ghost use Rattle.edge_base.specs.Clock.{Grows};
 ghost use Rattle.history.specs.Event.{History};
-ghost use Rattle.session.specs.Doing.{Any, Makes};
+ghost use Rattle.session_base.specs.Doing.{Any, Makes};
 ghost use Rattle.session.specs.Law.{KeepsTheLaw};
 ghost use Rattle.doors.specs.Door.{Shuts};
 ghost use Rattle.doors.specs.Ended.{EndsSince};

@@ -1,10 +1,10 @@
 // What no clause says: that a connection is served where there is memory.
 use crate::{Connection, ConnectionList, DoorEnd, MemoryDoor, Passage, Worker, serve_door};
-use cdni_base::{Body, Endpoint, Limits, Protocol, ProviderId, Target, Text, TypeName};
+use cdni_base::{Body, Endpoint, Limits, Protocol, ProviderId, Target, Text, TextList, TypeName};
 use edge_base::{ListClock, MemorySink, MemorySource};
 use location_acl::{Ip, PlaceTable};
 use node_core::{Node, OneHome};
-use session::Settings;
+use session::{AdvertSettings, Settings};
 use std::alloc::Global;
 use std::sync::Wait;
 use std::test::Fail;
@@ -36,11 +36,15 @@ fn settings(alloc: Global) -> Result<Settings, Fail> {
     let Ok(own) = ProviderId::read(alloc, b"AS64496:0") else {
         return Err(Fail::from("an id"));
     };
+    let Some(advert) = AdvertSettings::new(Protocol::Http, TextList::new(alloc)) else {
+        return Err(Fail::from("footprints"));
+    };
     Ok(Settings {
         protocol: Protocol::Http,
         control: control.host,
         root,
         own,
+        advert,
     })
 }
 

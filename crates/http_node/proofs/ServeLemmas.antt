@@ -18,7 +18,7 @@ use Rattle.location_acl.specs.Line.{AreLines, StopsAt}
 use Rattle.location_acl.specs.declared.line.PlaceLine.{PlaceLine}
 use Rattle.serve_words.specs.Options.{options_of}
 use Rattle.serve_words.specs.declared.options.Options.{Options}
-use Rattle.session.specs.declared.settings.Settings.{Settings}
+use Rattle.session_base.specs.declared.settings.Settings.{Settings}
 use Rattle.workers.proofs.CrewLemmas.{IsEnd, is_end}
 use Rattle.workers.proofs.HiringLemmas.{diary_same, diary_then}
 use Rattle.workers.specs.declared.crew.Crew.{Crew}
@@ -346,11 +346,11 @@ crew_with options places parts = record {
   workers = options.workers;
   connections = options.connections;
   places = places;
-  settings = record { protocol = parts.protocol; control = options.control; root = options.root; own = options.own };
+  settings = record { protocol = parts.protocol; control = options.control; root = options.root; own = options.own; advert = options.advert };
 }
 
 pub crew_as : (options : Options) (places : List PlaceLine) (parts : AdvertParts) → parts ≡ options.advert
-    → ◌≡◌ {A = Crew} (record { workers = options.workers; connections = options.connections; places = places; settings = record { protocol = parts.protocol; control = options.control; root = options.root; own = options.own } })
+    → ◌≡◌ {A = Crew} (record { workers = options.workers; connections = options.connections; places = places; settings = record { protocol = parts.protocol; control = options.control; root = options.root; own = options.own; advert = options.advert } })
     (crew_of options places)
 unfolding crew_with
 crew_as options places parts same = ap (λ (p : AdvertParts). crew_with options places p) same

@@ -13,7 +13,7 @@ use Rattle.history.specs.World.{Made}
 use Rattle.location_acl.specs.Line.{AreLines, StopsAt}
 use Rattle.location_acl.specs.declared.line.PlaceLine.{PlaceLine}
 use Rattle.serve_words.specs.declared.options.Options.{Options}
-use Rattle.session.specs.declared.settings.Settings.{Settings}
+use Rattle.session_base.specs.declared.settings.Settings.{Settings}
 use Rattle.workers.specs.Crew.{AreShifts, EndsWell, GaveBack, IsOneHistory, Serves, Shift, fault_status, refused, refused_status}
 use Rattle.workers.specs.declared.crew.Crew.{Crew}
 use Rattle.workers.specs.declared.hiring.Unhired.{Unhired}
@@ -33,6 +33,7 @@ settings_of options = record {
   control = options.control;
   root = options.root;
   own = options.own;
+  advert = options.advert;
 }
 
 -- the workers, with these places

@@ -215,6 +215,7 @@ fn serve_placed<R: Threads + Wait + Sync, O: Outside>(
         control,
         root,
         own,
+        advert,
     };
     let crew = Crew {
         workers,

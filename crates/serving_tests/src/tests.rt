@@ -1,11 +1,11 @@
 //! `serve_door` over TCP: clients, a node with its door and its gate, and an origin, all in one process.
 
-use cdni_base::{Endpoint, Limits, Protocol, ProviderId, Target, Text};
+use cdni_base::{Endpoint, Limits, Protocol, ProviderId, Target, Text, TextList};
 use doors::{Door, DoorEnd, Outside, Worker, serve_door};
 use edge_base::Clock;
 use location_acl::PlaceTable;
 use node_core::{Node, OneHome};
-use session::Settings;
+use session::{AdvertSettings, Settings};
 use std::alloc::Global;
 use std::io::{Read, Write};
 use std::net::{Net, Shutdown, SocketAddr, TcpListener, TcpStream};
@@ -51,13 +51,26 @@ enum Crowd {
     Six,
 }
 
-// what came of a crowd: how the serving ended, how many of its clients got what they waited for, how many requests the
-// origin got, and the faults of the door, of the gate and of the outside
+// where clients connect, and where the origin is
+#[derive(Clone, Copy)]
+struct Ends {
+    door: SocketAddr,
+    origin: SocketAddr,
+}
+
+// what came of a crowd: how the serving ended, how many of its clients got what they waited for, and how many requests the
+// origin got
 #[derive(Clone, Copy, Debug, PartialEq, Eq)]
-struct Served {
+struct Seen {
     end: DoorEnd,
     good: u64,
     asked: u64,
+}
+
+// the same, with the faults of the door, of the gate and of the outside
+#[derive(Clone, Copy, Debug, PartialEq, Eq)]
+struct Served {
+    seen: Seen,
     door_faults: u64,
     gate_faults: u64,
     faults: u64,
@@ -66,9 +79,11 @@ struct Served {
 // served without a fault
 const fn well(good: u64, asked: u64) -> Served {
     Served {
-        end: DoorEnd::Served,
-        good,
-        asked,
+        seen: Seen {
+            end: DoorEnd::Served,
+            good,
+            asked,
+        },
         door_faults: 0,
         gate_faults: 0,
         faults: 0,
@@ -175,6 +190,7 @@ fn settings_of(alloc: Global, origin: SocketAddr) -> Result<Settings, Fail> {
             .ok()
             .ok_or("URL")?,
         own: ProviderId::read(alloc, b"AS64496:0").ok().ok_or("id")?,
+        advert: AdvertSettings::new(Protocol::Http, TextList::new(alloc)).ok_or("footprints")?,
     })
 }
 
@@ -381,6 +397,87 @@ fn home(alloc: Global) -> Result<OneHome, Fail> {
     Ok(OneHome { node, number: 0 })
 }
 
+// what came of all of this at once: the clients, the origin and the worker
+fn serve_at_once<
+    R: Threads + Wait + Sync + Net<Stream = TcpStream> + time::Clock,
+    D: Door,
+    G: Gate,
+    C: Clock,
+>(
+    rt: &R,
+    alloc: Global,
+    home: &mut OneHome,
+    worker: &mut Worker<D, G, C>,
+    places: &PlaceTable,
+    settings: &Settings,
+    listener: &TcpListener,
+    document: &[u8],
+    ends: Ends,
+    crowd: Crowd,
+    connections: u64,
+) -> Seen {
+    let ended = AtomicU64::new(0);
+    let (good, (asked, end)) = join(
+        rt,
+        || clients(rt, alloc, ends.door, crowd, &ended),
+        || {
+            join(
+                rt,
+                || origin(alloc, listener, document).unwrap_or(0),
+                || {
+                    serve(
+                        rt,
+                        rt,
+                        alloc,
+                        home,
+                        worker,
+                        places,
+                        settings,
+                        ends.origin,
+                        connections,
+                        &ended,
+                    )
+                },
+            )
+        },
+    );
+    Seen { end, good, asked }
+}
+
+// serves with a worker, over a node of its own
+fn serve_worker<
+    R: Threads + Wait + Sync + Net<Stream = TcpStream> + time::Clock,
+    D: Door,
+    G: Gate,
+    C: Clock,
+>(
+    rt: &R,
+    alloc: Global,
+    worker: &mut Worker<D, G, C>,
+    listener: &TcpListener,
+    ends: Ends,
+    crowd: Crowd,
+    connections: u64,
+) -> Result<Seen, Fail> {
+    let document = document_of(alloc, ends.origin.port())?;
+    let settings = settings_of(alloc, ends.origin)?;
+    let places = PlaceTable::read(alloc, b"").ok().ok_or("places")?;
+    let mut home = home(alloc)?;
+    Ok(serve_at_once(
+        rt,
+        alloc,
+        &mut home,
+        worker,
+        &places,
+        &settings,
+        listener,
+        document.as_bytes(),
+        ends,
+        crowd,
+        connections,
+    ))
+}
+
 // serves so many connections, of which a crowd makes the first, over a door at this address
 fn serve_crowd<
     R: Threads
@@ -401,48 +498,18 @@ fn serve_crowd<
     connections: u64,
 ) -> Result<Served, Fail> {
     let listener = TcpListener::bind(rt, "127.0.0.1:0")?;
-    let from = listener.local_addr()?;
-    let document = document_of(alloc, from.port())?;
-    let document = document.as_bytes();
-    let settings = settings_of(alloc, from)?;
-    let places = PlaceTable::read(alloc, b"").ok().ok_or("places")?;
-    let mut home = home(alloc)?;
+    let origin = listener.local_addr()?;
     let mut outside = StdOutside::new(rt.clone()?, waits);
     outside.listen(rt, alloc, at).ok().ok_or("listen")?;
-    let addr = outside.local_addr().ok_or("address")?;
+    let door = outside.local_addr().ok_or("address")?;
     let mut worker = outside.worker(rt, alloc).ok().ok_or("worker")?;
-    let ended = AtomicU64::new(0);
-    let (good, (asked, end)) = join(
-        rt,
-        || clients(rt, alloc, addr, crowd, &ended),
-        || {
-            join(
-                rt,
-                || origin(alloc, &listener, document).unwrap_or(0),
-                || {
-                    serve(
-                        rt,
-                        rt,
-                        alloc,
-                        &mut home,
-                        &mut worker,
-                        &places,
-                        &settings,
-                        from,
-                        connections,
-                        &ended,
-                    )
-                },
-            )
-        },
-    );
+    let ends = Ends { door, origin };
+    let seen = serve_worker(rt, alloc, &mut worker, &listener, ends, crowd, connections)?;
     let door_faults = worker.door.faults();
     let gate_faults = worker.gate.faults();
     outside.give_back(worker);
     Ok(Served {
-        end,
-        good,
-        asked,
+        seen,
         door_faults,
         gate_faults,
         faults: outside.faults(),

@@ -3,20 +3,21 @@ use Rattle.std.proofs.Common.{◌≡◌, ℕ, ◌+◌, ◌-◌, ◌<◌, ◌≤�
 use Rattle.std.proofs.lemmas.Bool.{eq-eqb, cases_lt}
 use Rattle.http_wire.specs.Head.{HeadParts}
 use Rattle.location_acl.specs.declared.footprint.Place.{Place}
+use Rattle.control_request.proofs.ControlLemmas.{serves_goes}
 use Rattle.session.specs.Answered.{answered}
-use Rattle.session.specs.Course.{is_short}
-use Rattle.session.specs.Doing.{Doing, then}
-use Rattle.session.specs.Ending.{next_of}
-use Rattle.session.specs.Moment.{capped}
-use Rattle.session.specs.Request.{manner_of, says_close}
+use Rattle.content_request.specs.Course.{is_short}
+use Rattle.session_base.specs.Doing.{Doing, then}
+use Rattle.session_base.specs.Ending.{next_of}
+use Rattle.session_base.specs.Moment.{capped}
+use Rattle.session_base.specs.Request.{manner_of, says_close}
 use Rattle.session.specs.Session.{Runs}
 use Rattle.session.specs.Turn.{HasNoRequest, Turn}
-use Rattle.session.specs.declared.ending.Ending.{Ending}
-use Rattle.session.specs.declared.ending.Ending.TheVariants as ending
-use Rattle.session.specs.declared.ending.Next.{Next}
-use Rattle.session.specs.declared.ending.Next.TheVariants as next
+use Rattle.session_base.specs.declared.ending.Ending.{Ending}
+use Rattle.session_base.specs.declared.ending.Ending.TheVariants as ending
+use Rattle.session_base.specs.declared.ending.Next.{Next}
+use Rattle.session_base.specs.declared.ending.Next.TheVariants as next
 use Rattle.session.specs.declared.serve.TheConstants.{TURNS_MAX}
-use Rattle.session.specs.declared.settings.Settings.{Settings}
+use Rattle.session_base.specs.declared.settings.Settings.{Settings}
 
 -- ---- what no turn is
 
@@ -47,7 +48,7 @@ no_turns settings place last d (inl (end, is, none)) = let same : end ≡ ending
 no_turns settings place last d (inr (inl refusal)) = never_turns (not last) false refusal.fault refusal.goes
 no_turns settings place last d (inr (inr (inl broken))) = broken.breaks
 no_turns settings place last d (inr (inr (inr served))) = elim served.answers [
-  | inl absent ↦ never_turns _ false absent.1.fault absent.1.goes
+  | inl control ↦ let goes = serves_goes settings served.asked served.whole.content (manner_of served.head (capped served.moment) last) served.inner (next.Stops ending.Turns) control.1 in never_turns _ goes.0 goes.1 goes.2
   | inr content ↦ never_turns _ (is_short content.1.course) content.1.fault content.1.goes
 ]
 
@@ -57,7 +58,8 @@ not_closed settings place d (inl (end, is, none)) = let same : end ≡ ending.Cl
 not_closed settings place d (inr (inl refusal)) = stays_here false refusal.fault refusal.goes
 not_closed settings place d (inr (inr (inl broken))) = broken.breaks
 not_closed settings place d (inr (inr (inr served))) = elim served.answers [
-  | inl absent ↦ stays_here false absent.1.fault (absent.1.goes ∙ ap (λ (b : Bool). next_of b false absent.1.fault) (leaves_last served.head (capped served.moment)))
+  | inl control ↦ let goes = serves_goes settings served.asked served.whole.content (manner_of served.head (capped served.moment) true) served.inner (next.Stops ending.Closed) control.1 in
+      stays_here goes.0 goes.1 (goes.2 ∙ ap (λ (b : Bool). next_of b goes.0 goes.1) (leaves_last served.head (capped served.moment)))
   | inr content ↦ stays_here (is_short content.1.course) content.1.fault (content.1.goes ∙ ap (λ (b : Bool). next_of b (is_short content.1.course) content.1.fault) (leaves_last served.head (capped served.moment)))
 ]
 

@@ -4,23 +4,30 @@ use Rattle.std.proofs.lemmas.Bool.{eq-eqb, and_from, or_left, or_right}
 use Rattle.std.proofs.lemmas.List.Folds.{list_any-append}
 use Rattle.std.proofs.lemmas.Option.{none-some, same_Some}
 use Rattle.cdni_base.specs.declared.asked.Asked.{Asked}
-use Rattle.history.specs.Event.{Entry, Event, Admit, FetchEnd, RefreshBegin, RefreshEnd}
+use Rattle.std.specs.declared.option.Option.{Option}
+use Rattle.control_request.proofs.CallLemmas.{IsControlEvent, serves_have}
+use Rattle.history.specs.After.{begun_fetch, begun_refresh}
+use Rattle.history.specs.Event.{Entry, Event, Admit, FetchEnd, Finish, RefreshBegin, RefreshEnd, Command, Advance, Cancel, Delete, ReadStatus, Lists, Cut, LogFile, ListLogs, DropLog}
 use Rattle.history.specs.Laws.{ends_delivery, ends_fetch, ends_refresh}
 use Rattle.history.specs.declared.reply.Reply.{Reply}
 use Rattle.history.specs.declared.reply.Reply.TheVariants as reply
 use Rattle.location_acl.specs.declared.footprint.Place.{Place}
-use Rattle.session.specs.Answer.{Answer}
-use Rattle.session.specs.Course.{Course, NoRoom, Crowded, Full, Barred, Kept, Brought, Short, course_calls, finished}
-use Rattle.session.specs.Doing.{Called, Doing, then}
+use Rattle.metadata_objects.specs.Tree.{TreeData}
+use Rattle.targets.specs.declared.endpoint.Endpoint.{Endpoint}
+use Rattle.targets.specs.declared.target.Target.{Target}
+use Rattle.upstream_gate.specs.declared.outcome.Outcome.{Outcome}
+use Rattle.session_base.specs.Answer.{Answer}
+use Rattle.content_request.specs.Course.{Course, NoRoom, Crowded, Full, Barred, Kept, Brought, Short, course_calls, finished}
+use Rattle.session_base.specs.Doing.{Called, Doing, then}
 use Rattle.session.specs.Ended.{AllEnded, EndsLater, IsEndedIn, opened_delivery, opened_fetch, opened_refresh}
-use Rattle.session.specs.Moment.{capped}
-use Rattle.session.specs.Refresh.{Refreshing, NoBegin, NotDue, Crowded as Thronged, Gathered, Ungathered, refresh_calls}
+use Rattle.session_base.specs.Moment.{capped}
+use Rattle.content_request.specs.Refresh.{Refreshing, NoBegin, NotDue, Crowded as Thronged, Gathered, Ungathered, refresh_calls}
 use Rattle.session.specs.Session.{Runs}
 use Rattle.session.specs.Turn.{Turn}
-use Rattle.session.specs.declared.ending.Ending.{Ending}
-use Rattle.session.specs.declared.ending.Next.{Next}
-use Rattle.session.specs.declared.ending.Next.TheVariants as next
-use Rattle.session.specs.declared.settings.Settings.{Settings}
+use Rattle.session_base.specs.declared.ending.Ending.{Ending}
+use Rattle.session_base.specs.declared.ending.Next.{Next}
+use Rattle.session_base.specs.declared.ending.Next.TheVariants as next
+use Rattle.session_base.specs.declared.settings.Settings.{Settings}
 
 later_too : (ends : ℕ → ℕ → Entry → Bool) (number : ℕ) (calls more : List Called) → IsEndedIn ends number calls → IsEndedIn ends number (calls ++ more)
 later_too ends number calls more is = list_any-append (λ call. ends number 0 (0, call.0)) calls more ∙ or_left _ _ is
@@ -96,13 +103,47 @@ course_ended asked place moment answer taken (Brought delivery fetch plan made h
 course_ended asked place moment answer taken (Short delivery fetch plan made how ended closed at line) =
     ended_next (Admit asked place moment) (Admit asked place moment, reply.Miss delivery fetch plan) delivery fetch answer taken at line (FetchEnd fetch how (capped ended), closed) refl refl refl refl refl refl (λ number. refl)
 
+-- a call of the upstream CDN's requests opens nothing
+control_ended : (event : Event) (line : Reply) → IsControlEvent event → AllEnded ((event, line) ∷ [])
+control_ended (Admit asked place moment) line is = absurd is
+control_ended (FetchEnd fetch outcome moment) line is = absurd is
+control_ended (Finish delivery status total entity moment) line is = absurd is
+control_ended (RefreshBegin moment) line is = absurd is
+control_ended (RefreshEnd refresh tree moment) line is = absurd is
+control_ended (Command spec moment) line is = (opens_none (Command spec moment, line) [] refl refl refl, tt)
+control_ended (Advance id moment) line is = absurd is
+control_ended (Cancel ids moment) line is = (opens_none (Cancel ids moment, line) [] refl refl refl, tt)
+control_ended (Delete id) line is = (opens_none (Delete id, line) [] refl refl refl, tt)
+control_ended (ReadStatus id) line is = (opens_none (ReadStatus id, line) [] refl refl refl, tt)
+control_ended (Lists filter) line is = (opens_none (Lists filter, line) [] refl refl refl, tt)
+control_ended (Cut moment) line is = (opens_none (Cut moment, line) [] refl refl refl, tt)
+control_ended (LogFile number) line is = (opens_none (LogFile number, line) [] refl refl refl, tt)
+control_ended ListLogs line is = (opens_none (ListLogs, line) [] refl refl refl, tt)
+control_ended (DropLog number) line is = (opens_none (DropLog number, line) [] refl refl refl, tt)
+
+-- a step that begins nothing, and one with the end of what it begins
+still_ended : (id at : ℕ) (line : Reply) → begun_fetch line ≡ None → begun_refresh line ≡ None → AllEnded ((Advance id at, line) ∷ [])
+still_ended id at line f r = (opens_none (Advance id at, line) [] refl f r, tt)
+
+fetched_ended : (id at fetch : ℕ) (plan : List Endpoint) (target : Target) (how : Outcome) (end : ℕ) (closed : Reply) → AllEnded ((Advance id at, reply.Fetch fetch plan target) ∷ (FetchEnd fetch how end, closed) ∷ [])
+fetched_ended id at fetch plan target how end closed = (
+  record { delivery = λ number is. absurd (none-some _ is); fetch = λ number is. or_left _ _ (same_number fetch number is); refresh = λ number is. absurd (none-some _ is) },
+  (opens_none (FetchEnd fetch how end, closed) [] refl refl refl, tt),
+)
+
+gathered_ended : (id at refresh : ℕ) (tree : Option TreeData) (end : ℕ) (closed : Reply) → AllEnded ((Advance id at, reply.Refresh refresh) ∷ (RefreshEnd refresh tree end, closed) ∷ [])
+gathered_ended id at refresh tree end closed = (
+  record { delivery = λ number is. absurd (none-some _ is); fetch = λ number is. absurd (none-some _ is); refresh = λ number is. or_left _ _ (same_number refresh number is) },
+  (opens_none (RefreshEnd refresh tree end, closed) [] refl refl refl, tt),
+)
+
 turn_ended : (settings : Settings) (place : Place) (last : Bool) (d : Doing) (after : Next) → Turn settings place last d after → AllEnded d.calls
 turn_ended settings place last d after (inl (end, is, none)) = subst AllEnded (sym none.calls) tt
 turn_ended settings place last d after (inr (inl refusal)) = subst AllEnded (sym refusal.only.calls) tt
 turn_ended settings place last d after (inr (inr (inl broken))) = subst AllEnded (sym broken.only.calls) tt
 turn_ended settings place last d after (inr (inr (inr served))) =
     subst (λ (x : Doing). AllEnded x.calls) (sym served.whole.is) (elim served.answers [
-      | inl absent ↦ subst AllEnded (sym absent.1.calls) tt
+      | inl control ↦ serves_have AllEnded tt all_then control_ended still_ended fetched_ended gathered_ended settings served.asked served.whole.content _ served.inner after control.1
       | inr content ↦ let k = content.1 in
           subst AllEnded (sym k.calls) (all_then (refresh_calls _ k.how) (course_calls _ k.answer _ k.course) (refresh_ended _ k.how) (course_ended served.asked place _ k.answer _ k.course))
     ])

@@ -1,13 +1,8 @@
-pub mod AnswerLemmas
 pub mod AnsweredLemmas
-pub mod CourseLemmas
-pub mod DoingLemmas
 pub mod EndedLemmas
-pub mod GatheringLemmas
-pub mod OpenLemmas
+pub mod FullLemmas
 pub mod RecordedLemmas
-pub mod RefreshLemmas
-pub mod RequestLemmas
 pub mod SessionLemmas
+pub mod SettledLemmas
 pub mod TellingLemmas
 pub mod TurnLemmas

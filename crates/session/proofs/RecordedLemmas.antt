@@ -13,20 +13,21 @@ use Rattle.history.specs.declared.reply.Reply.{Reply}
 use Rattle.history.specs.declared.reply.Reply.TheVariants as reply
 use Rattle.location_acl.specs.declared.footprint.Place.{Place}
 use Rattle.node_core.specs.Home.{AreOthers, Who}
-use Rattle.session.specs.Answer.{Answer}
-use Rattle.session.specs.Course.{Course, NoRoom, Crowded, Full, Barred, Kept, Brought, Short, course_calls, finished}
-use Rattle.session.specs.Doing.{Called, Doing, then, Told}
-use Rattle.session.specs.Moment.{capped}
+use Rattle.session_base.specs.Answer.{Answer}
+use Rattle.content_request.specs.Course.{Course, NoRoom, Crowded, Full, Barred, Kept, Brought, Short, course_calls, finished}
+use Rattle.session_base.specs.Doing.{Called, Doing, then, Told}
+use Rattle.session_base.specs.Moment.{capped}
 use Rattle.session.specs.Recorded.{AllRecorded, IsRecorded}
-use Rattle.session.specs.Refresh.{Refreshing, NoBegin, NotDue, Crowded as Thronged, Gathered, Ungathered, refresh_calls}
+use Rattle.content_request.specs.Refresh.{Refreshing, NoBegin, NotDue, Crowded as Thronged, Gathered, Ungathered, refresh_calls}
 use Rattle.session.specs.Session.{Runs}
 use Rattle.session.specs.Turn.{Turn}
-use Rattle.session.specs.declared.ending.Ending.{Ending}
-use Rattle.session.specs.declared.ending.Next.{Next}
-use Rattle.session.specs.declared.ending.Next.TheVariants as next
-use Rattle.session.specs.declared.settings.Settings.{Settings}
-use Rattle.session.proofs.DoingLemmas.{told_none}
-use Rattle.session.proofs.OpenLemmas.{Spares, is_opened, own_delivery, stays_open}
+use Rattle.session_base.specs.declared.ending.Ending.{Ending}
+use Rattle.session_base.specs.declared.ending.Next.{Next}
+use Rattle.session_base.specs.declared.ending.Next.TheVariants as next
+use Rattle.session_base.specs.declared.settings.Settings.{Settings}
+use Rattle.control_request.proofs.CallLemmas.{IsControlEvent, serves_have}
+use Rattle.session_base.proofs.DoingLemmas.{told_none}
+use Rattle.session_base.proofs.OpenLemmas.{Spares, is_opened, own_delivery, stays_open}
 
 -- ---- calls one after the other
 
@@ -43,7 +44,7 @@ told_split who h [] more last told = (h, told_none who h, told)
 told_split who h (call ∷ calls) more last (others, are, answer, told) =
     one_before who h call calls more last others are answer (told_split who ((h ++ others) ++ (who.number, call.0) ∷ []) calls more last told)
 
-told_longer : (who : Who) (h : History) (calls : List Called) (last : History) → Told who h calls last → (more : History) × (last ≡ h ++ more)
+pub told_longer : (who : Who) (h : History) (calls : List Called) (last : History) → Told who h calls last → (more : History) × (last ≡ h ++ more)
 told_longer who h [] last (others, are, is) = (others, is)
 told_longer who h (call ∷ calls) last (others, are, answer, told) =
     let r = told_longer who ((h ++ others) ++ (who.number, call.0) ∷ []) calls last told in
@@ -171,6 +172,24 @@ module _ (law : OpenLaw) (who : Who) where
   course_logs asked place moment answer taken (Short delivery fetch plan made how ended closed at line) h last told =
       (tt, (tt, (end_logged h last (Admit asked place moment, reply.Miss delivery fetch plan) ((FetchEnd fetch how (capped ended), closed) ∷ []) delivery _ _ _ _ line refl refl told, tt)))
 
+  -- the calls of the upstream CDN's requests end no delivery
+  control_logs : (event : Event) (line : Reply) → IsControlEvent event → Logs who ((event, line) ∷ [])
+  control_logs (Admit asked place moment) line is h last told = absurd is
+  control_logs (FetchEnd fetch outcome moment) line is h last told = absurd is
+  control_logs (Finish delivery status total entity moment) line is h last told = absurd is
+  control_logs (RefreshBegin moment) line is h last told = absurd is
+  control_logs (RefreshEnd refresh tree moment) line is h last told = absurd is
+  control_logs (Command spec moment) line is h last told = (tt, tt)
+  control_logs (Advance id moment) line is h last told = absurd is
+  control_logs (Cancel ids moment) line is h last told = (tt, tt)
+  control_logs (Delete id) line is h last told = (tt, tt)
+  control_logs (ReadStatus id) line is h last told = (tt, tt)
+  control_logs (Lists filter) line is h last told = (tt, tt)
+  control_logs (Cut moment) line is h last told = (tt, tt)
+  control_logs (LogFile number) line is h last told = (tt, tt)
+  control_logs ListLogs line is h last told = (tt, tt)
+  control_logs (DropLog number) line is h last told = (tt, tt)
+
   none_logs : Logs who []
   none_logs h last told = tt
 
@@ -180,7 +199,8 @@ module _ (law : OpenLaw) (who : Who) where
   turn_logs settings place last d after (inr (inr (inl broken))) = subst (Logs who) (sym broken.only.calls) none_logs
   turn_logs settings place last d after (inr (inr (inr served))) =
       subst (λ (x : Doing). Logs who x.calls) (sym served.whole.is) (elim served.answers [
-        | inl absent ↦ subst (Logs who) (sym absent.1.calls) none_logs
+        | inl control ↦ serves_have (Logs who) none_logs (logs_then who) control_logs (λ id at line f r h x told. (tt, tt)) (λ id at fetch plan target how end closed h x told. (tt, (tt, tt)))
+            (λ id at refresh tree end closed h x told. (tt, (tt, tt))) settings served.asked served.whole.content _ served.inner after control.1
         | inr content ↦ let k = content.1 in
             subst (Logs who) (sym k.calls) (logs_then who (refresh_calls _ k.how) (course_calls _ k.answer _ k.course) (refresh_logs _ k.how) (course_logs served.asked place _ k.answer _ k.course))
       ])

@@ -7,19 +7,19 @@ use Rattle.http_wire.proofs.MoveLemmas.{moves_nothing, moves_then}
 use Rattle.location_acl.specs.declared.footprint.Place.{Place}
 use Rattle.node_core.specs.Home.{Who}
 use Rattle.upstream_gate.specs.Outcome.{Exchange}
-use Rattle.session.specs.Answer.{Says, IsConstant}
-use Rattle.session.specs.Doing.{Doing, nothing, then, Any, Does}
-use Rattle.session.specs.Ending.{next_of}
+use Rattle.session_base.specs.Answer.{Says, IsConstant}
+use Rattle.session_base.specs.Doing.{Doing, nothing, then, Any, Does}
+use Rattle.session_base.specs.Ending.{next_of}
 use Rattle.session.specs.Session.{Runs, Session, Leaves}
 use Rattle.session.specs.Turn.{Turn}
-use Rattle.session.specs.declared.constant.Constant.TheVariants as constant
-use Rattle.session.specs.declared.ending.Ending.{Ending}
-use Rattle.session.specs.declared.ending.Ending.TheVariants as ending
-use Rattle.session.specs.declared.ending.Next.TheVariants as next
-use Rattle.session.specs.declared.send.Sent.{Sent}
+use Rattle.session_base.specs.declared.constant.Constant.TheVariants as constant
+use Rattle.session_base.specs.declared.ending.Ending.{Ending}
+use Rattle.session_base.specs.declared.ending.Ending.TheVariants as ending
+use Rattle.session_base.specs.declared.ending.Next.TheVariants as next
+use Rattle.session_base.specs.declared.send.Sent.{Sent}
 use Rattle.session.specs.declared.serve.TheConstants.{TURNS_MAX}
-use Rattle.session.specs.declared.settings.Settings.{Settings}
-use Rattle.session.proofs.DoingLemmas.{does_nothing, does_on}
+use Rattle.session_base.specs.declared.settings.Settings.{Settings}
+use Rattle.session_base.proofs.DoingLemmas.{does_nothing, does_on}
 use Rattle.session.proofs.TurnLemmas.{Turned, short_of_head}
 
 -- what was done in so many turns: what is told of the rest is told of all

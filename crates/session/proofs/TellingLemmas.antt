@@ -14,19 +14,19 @@ use Rattle.cdni_base.specs.declared.rule.Rule.{Rule}
 use Rattle.cdni_base.specs.declared.rule.Rule.TheVariants as rule
 use Rattle.std.proofs.lemmas.Bool.{both_ways}
 use Rattle.upstream_gate.specs.Got.{GotParts, IsGot, is_got_status}
-use Rattle.session.specs.Answer.{Answer, IsConstant}
-use Rattle.session.specs.Content.{Shown, IsShown, brought_shown, content_shown, denied_shown, full_shown, part_shown, saying, whole_shown}
-use Rattle.session.specs.Course.{Course, NoRoom, Crowded, Full, Barred, Kept, Brought, Short, Content, course_calls, IsAnswerOf, IsBounded, IsPlanned}
-use Rattle.session.specs.Doing.{Called, Doing, then}
-use Rattle.session.specs.Refresh.{Refreshing, NoBegin, NotDue, Crowded as Thronged, Gathered, Ungathered, refresh_calls}
+use Rattle.session_base.specs.Answer.{Answer, IsConstant}
+use Rattle.session_base.specs.Content.{IsBounded, Shown, IsShown, brought_shown, content_shown, denied_shown, full_shown, part_shown, saying, whole_shown}
+use Rattle.content_request.specs.Course.{Course, NoRoom, Crowded, Full, Barred, Kept, Brought, Short, Content, course_calls, IsAnswerOf, IsPlanned}
+use Rattle.session_base.specs.Doing.{Called, Doing, then}
+use Rattle.content_request.specs.Refresh.{Refreshing, NoBegin, NotDue, Crowded as Thronged, Gathered, Ungathered, refresh_calls}
 use Rattle.session.specs.Session.{Runs}
-use Rattle.session.specs.Telling.{TellsOf, AllTellOf, IsFailure, BroughtNothing}
-use Rattle.session.specs.declared.constant.Constant.TheVariants as constant
-use Rattle.session.specs.declared.ending.Ending.{Ending}
-use Rattle.session.specs.declared.ending.Ending.TheVariants as ending
-use Rattle.session.specs.declared.ending.Next.{Next}
-use Rattle.session.specs.declared.ending.Next.TheVariants as next
-use Rattle.session.specs.declared.manner.Manner.{Manner}
+use Rattle.content_request.specs.Telling.{TellsOf, AllTellOf, IsFailure, BroughtNothing}
+use Rattle.session_base.specs.declared.constant.Constant.TheVariants as constant
+use Rattle.session_base.specs.declared.ending.Ending.{Ending}
+use Rattle.session_base.specs.declared.ending.Ending.TheVariants as ending
+use Rattle.session_base.specs.declared.ending.Next.{Next}
+use Rattle.session_base.specs.declared.ending.Next.TheVariants as next
+use Rattle.session_base.specs.declared.manner.Manner.{Manner}
 use Rattle.session.specs.declared.serve.TheConstants.{TURNS_MAX}
 
 all_then : (answer : Answer) (taken : ℕ) (calls more : List Called) → AllTellOf answer taken calls → AllTellOf answer taken more → AllTellOf answer taken (calls ++ more)

@@ -23,26 +23,27 @@ use Rattle.node_core.specs.Home.{Who}
 use Rattle.targets.specs.declared.target.Protocol.{Protocol}
 use Rattle.upstream_gate.specs.Outcome.{Exchange}
 use Rattle.upstream_gate.proofs.PlanLemmas.{grows_none, grows_on}
-use Rattle.session.specs.Answer.{Answer, Says, IsConstant}
-use Rattle.session.specs.Content.{IsShown, absent_shown}
-use Rattle.session.specs.Course.{Content, is_short}
-use Rattle.session.specs.Doing.{Doing, nothing, Any, Does}
-use Rattle.session.specs.Ending.{next_of}
-use Rattle.session.specs.Moment.{capped}
-use Rattle.session.specs.Request.{asked_of, manner_of, read_of}
+use Rattle.session_base.specs.Answer.{Answer, Says, IsConstant}
+use Rattle.content_request.specs.Course.{Content, is_short}
+use Rattle.session_base.specs.Doing.{Doing, nothing, Any, Does}
+use Rattle.session_base.specs.Ending.{next_of}
+use Rattle.session_base.specs.Moment.{capped}
+use Rattle.session_base.specs.Request.{asked_of, manner_of, read_of}
 use Rattle.session.specs.Session.{LeavesNext}
 use Rattle.session.specs.Turn.{AnnouncesMore, Turn, TurnBehind, HasNoRequest, IsRefused, IsRefusedBody, BreaksOff, Answers, IsControl, Writes, bad_next}
-use Rattle.session.specs.declared.constant.Constant.{Constant}
-use Rattle.session.specs.declared.constant.Constant.TheVariants as constant
-use Rattle.session.specs.declared.ending.Ending.{Ending}
-use Rattle.session.specs.declared.ending.Ending.TheVariants as ending
-use Rattle.session.specs.declared.ending.Next.{Next}
-use Rattle.session.specs.declared.ending.Next.TheVariants as next
-use Rattle.session.specs.declared.manner.Manner.{Manner}
-use Rattle.session.specs.declared.send.Sent.{Sent}
-use Rattle.session.specs.declared.settings.Settings.{Settings}
+use Rattle.session_base.specs.declared.constant.Constant.{Constant}
+use Rattle.session_base.specs.declared.constant.Constant.TheVariants as constant
+use Rattle.session_base.specs.declared.ending.Ending.{Ending}
+use Rattle.session_base.specs.declared.ending.Ending.TheVariants as ending
+use Rattle.session_base.specs.declared.ending.Next.{Next}
+use Rattle.session_base.specs.declared.ending.Next.TheVariants as next
+use Rattle.session_base.specs.declared.manner.Manner.{Manner}
+use Rattle.session_base.specs.declared.send.Sent.{Sent}
+use Rattle.session_base.specs.declared.settings.Settings.{Settings}
 use Rattle.session.specs.declared.turn.TheConstants.{BODY_LIMIT}
-use Rattle.session.proofs.DoingLemmas.{does_nothing, does_written}
+use Rattle.session_base.proofs.DoingLemmas.{does_nothing}
+use Rattle.control_request.specs.Control.{Serves}
+use Rattle.control_request.proofs.ControlLemmas.{serves_goes}
 
 -- what is read of a head, and what is not
 abbrev with_manner : Manner → Asked → Asked × Manner
@@ -207,14 +208,15 @@ broken_short front part who a g g' t k k' sent left left' inbox inbox' settings 
     )
 
 -- what follows a request that was answered says nothing of what is left
-answered_free : (left : Option (List ℕ)) (inbox : List ℕ) (settings : Settings) (place : Place) (asked : Asked) (manner : Manner) (d : Doing) (after : Next) → Answers settings place asked manner d after → LeavesNext left inbox after
-answered_free left inbox settings place asked manner d after (inl absent) = subst (LeavesNext left inbox) (sym absent.1.goes) (stops_free left inbox manner.leaves false absent.1.fault)
-answered_free left inbox settings place asked manner d after (inr content) = subst (LeavesNext left inbox) (sym content.1.goes) (stops_free left inbox manner.leaves (is_short content.1.course) content.1.fault)
+answered_free : (left : Option (List ℕ)) (inbox : List ℕ) (settings : Settings) (place : Place) (asked : Asked) (body : List ℕ) (manner : Manner) (d : Doing) (after : Next) → Answers settings place asked body manner d after → LeavesNext left inbox after
+answered_free left inbox settings place asked body manner d after (inl control) = let goes = serves_goes settings asked body manner d after control.1 in
+    subst (LeavesNext left inbox) (sym goes.2) (stops_free left inbox manner.leaves goes.0 goes.1)
+answered_free left inbox settings place asked body manner d after (inr content) = subst (LeavesNext left inbox) (sym content.1.goes) (stops_free left inbox manner.leaves (is_short content.1.course) content.1.fault)
 
 -- the request was read whole, and served
 pub served : (front body : List ℕ) (who : Who) (a b : History → Type 0) (g g' g'' : Option (List ℕ)) (t t' : Option (List Exchange)) (k k' : Option (List ℕ)) (left left' : Option (List ℕ)) (inbox inbox' : List ℕ) (settings : Settings) (place : Place) (last : Bool) (head : HeadParts) (moment : ℕ) (asked : Asked) (manner : Manner) (after : Next) (d : Doing)
     → Spells front head → asked_of settings.protocol head ≡ Some asked → manner ≡ manner_of head (capped moment) last → framing_of head.headers ≡ framing.Length (length body)
-    → Grows g g' (moment ∷ []) → Moves left left' inbox inbox' body → Answers settings place asked manner d after → Does who Any a b g' g'' t t' k k' d
+    → Grows g g' (moment ∷ []) → Moves left left' inbox inbox' body → Answers settings place asked body manner d after → Does who Any a b g' g'' t t' k k' d
     → TurnedBehind front who a b g g'' t t' k k' left left' inbox inbox' settings place last after
 served front body who a b g g' g'' t t' k k' left left' inbox inbox' settings place last head moment asked manner after d spells asks manners framed grows moves answers does = (
   record { bytes = body; moments = moment ∷ d.moments; exchanges = d.exchanges; written = d.written; calls = d.calls },
@@ -224,27 +226,23 @@ served front body who a b g g' g'' t t' k k' left left' inbox inbox' settings pl
     moment = moment;
     inner = d;
     whole = record { front = front; content = body; spells = spells; asks = asks; framed = framed; is = refl };
-    answers = subst (λ (m : Manner). Answers settings place asked m d after) manners answers;
+    answers = subst (λ (m : Manner). Answers settings place asked body m d after) manners answers;
   }))),
   moves,
-  answered_free left' inbox' settings place asked manner d after answers,
+  answered_free left' inbox' settings place asked body manner d after answers,
   record { moments = grows_on g g' g'' (moment ∷ []) d.moments grows does.moments; exchanges = does.exchanges; written = does.written; calls = does.calls },
 )
 
--- a request of the control host
-pub absent : (who : Who) (a : History → Type 0) (g : Option (List ℕ)) (t : Option (List Exchange)) (k k' : Option (List ℕ)) (sent : Sent) (settings : Settings) (place : Place) (asked : Asked) (manner : Manner) (after : Next)
-    → IsControl settings asked true → Says (IsShown (absent_shown manner)) k k' sent → after ≡ next_of manner.leaves false sent.fault
-    → (d : Doing) × Answers settings place asked manner d after × Does who Any a a g g t t k k' d
-absent who a g t k k' sent settings place asked manner after control s goes = (
-  record nothing { written = s.written },
-  inl (control, record { answer = s.answer; fault = sent.fault; answered = s.is; takes = s.takes; bytes = refl; moments = refl; exchanges = refl; calls = refl; goes = goes }),
-  does_written who Any a g t k k' s.written s.put,
-)
+-- a request of the upstream CDN
+pub for_control : (who : Who) (a b : History → Type 0) (g g' : Option (List ℕ)) (t t' : Option (List Exchange)) (k k' : Option (List ℕ)) (settings : Settings) (place : Place) (asked : Asked) (body : List ℕ) (manner : Manner) (after : Next) (d : Doing)
+    → IsControl settings asked true → Serves settings asked body manner d after → Does who Any a b g g' t t' k k' d
+    → (e : Doing) × Answers settings place asked body manner e after × Does who Any a b g g' t t' k k' e
+for_control who a b g g' t t' k k' settings place asked body manner after d control serves does = (d, inl (control, serves), does)
 
-pub for_content : (who : Who) (a b : History → Type 0) (g g' : Option (List ℕ)) (t t' : Option (List Exchange)) (k k' : Option (List ℕ)) (settings : Settings) (place : Place) (asked : Asked) (manner : Manner) (after : Next) (d : Doing)
+pub for_content : (who : Who) (a b : History → Type 0) (g g' : Option (List ℕ)) (t t' : Option (List Exchange)) (k k' : Option (List ℕ)) (settings : Settings) (place : Place) (asked : Asked) (body : List ℕ) (manner : Manner) (after : Next) (d : Doing)
     → IsControl settings asked false → Content settings.root asked place manner d after → Does who Any a b g g' t t' k k' d
-    → (e : Doing) × Answers settings place asked manner e after × Does who Any a b g g' t t' k k' e
-for_content who a b g g' t t' k k' settings place asked manner after d other content does = (d, inr (other, content), does)
+    → (e : Doing) × Answers settings place asked body manner e after × Does who Any a b g g' t t' k k' e
+for_content who a b g g' t t' k k' settings place asked body manner after d other content does = (d, inr (other, content), does)
 
 -- ---- what was read
 

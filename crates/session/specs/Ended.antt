@@ -5,7 +5,7 @@ use Rattle.std.specs.declared.option.Option.{Option}
 use Rattle.history.specs.After.{begun_delivery, begun_fetch, begun_refresh}
 use Rattle.history.specs.Event.{Entry, Admit, RefreshBegin, Advance}
 use Rattle.history.specs.Laws.{ends_delivery, ends_fetch, ends_refresh}
-use Rattle.session.specs.Doing.{Called}
+use Rattle.session_base.specs.Doing.{Called}
 
 -- the delivery that a call has opened
 abbrev pub opened_delivery : Called → Option ℕ

@@ -5,7 +5,7 @@ use Rattle.history.specs.Event.{History, Finish}
 use Rattle.history.specs.History.{world_of}
 use Rattle.history.specs.World.{Made}
 use Rattle.history.specs.declared.reply.Reply.TheVariants as reply
-use Rattle.session.specs.Doing.{Called}
+use Rattle.session_base.specs.Doing.{Called}
 
 -- the end of a delivery was entered: among the rows is one of the delivery, under the number that was answered, with the
 -- status, the bytes and the moment that were told

@@ -3,14 +3,14 @@ use Rattle.std.specs.Prelude.{◌≡◌, ℕ, ◌+◌, ◌-◌, ◌<◌, List, [
 use Rattle.std.specs.declared.option.Option.{Option}
 use Rattle.std.specs.Io.KnownBytes.{IsAtEnd}
 use Rattle.location_acl.specs.declared.footprint.Place.{Place}
-use Rattle.session.specs.Doing.{Doing, nothing, then}
+use Rattle.session_base.specs.Doing.{Doing, nothing, then}
 use Rattle.session.specs.Turn.{Turn}
-use Rattle.session.specs.declared.ending.Ending.{Ending}
-use Rattle.session.specs.declared.ending.Ending.TheVariants as ending
-use Rattle.session.specs.declared.ending.Next.{Next}
-use Rattle.session.specs.declared.ending.Next.TheVariants as next
+use Rattle.session_base.specs.declared.ending.Ending.{Ending}
+use Rattle.session_base.specs.declared.ending.Ending.TheVariants as ending
+use Rattle.session_base.specs.declared.ending.Next.{Next}
+use Rattle.session_base.specs.declared.ending.Next.TheVariants as next
 use Rattle.session.specs.declared.serve.TheConstants.{TURNS_MAX}
-use Rattle.session.specs.declared.settings.Settings.{Settings}
+use Rattle.session_base.specs.declared.settings.Settings.{Settings}
 
 -- the first where another request follows, else the second of the ending
 abbrev pub Goes : Next → Type 0 → (Ending → Type 0) → Type 0

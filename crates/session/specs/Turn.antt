@@ -9,21 +9,21 @@ use Rattle.http_wire.specs.declared.body.Framing.{Framing}
 use Rattle.http_wire.specs.declared.body.Framing.TheVariants as framing
 use Rattle.httparse.specs.Grammar.{MayBecomeRequest}
 use Rattle.location_acl.specs.declared.footprint.Place.{Place}
-use Rattle.session.specs.Answer.{Answer, IsConstant, Takes}
-use Rattle.session.specs.Content.{IsShown, absent_shown}
-use Rattle.session.specs.Course.{Content}
-use Rattle.session.specs.Doing.{Doing}
-use Rattle.session.specs.Ending.{next_of}
-use Rattle.session.specs.Moment.{capped}
-use Rattle.session.specs.Request.{asked_of, manner_of}
-use Rattle.session.specs.declared.constant.Constant.{Constant}
-use Rattle.session.specs.declared.constant.Constant.TheVariants as constant
-use Rattle.session.specs.declared.ending.Ending.{Ending}
-use Rattle.session.specs.declared.ending.Ending.TheVariants as ending
-use Rattle.session.specs.declared.ending.Next.{Next}
-use Rattle.session.specs.declared.ending.Next.TheVariants as next
-use Rattle.session.specs.declared.manner.Manner.{Manner}
-use Rattle.session.specs.declared.settings.Settings.{Settings}
+use Rattle.session_base.specs.Answer.{Answer, IsConstant, Takes}
+use Rattle.content_request.specs.Course.{Content}
+use Rattle.control_request.specs.Control.{Serves}
+use Rattle.session_base.specs.Doing.{Doing}
+use Rattle.session_base.specs.Ending.{next_of}
+use Rattle.session_base.specs.Moment.{capped}
+use Rattle.session_base.specs.Request.{asked_of, manner_of}
+use Rattle.session_base.specs.declared.constant.Constant.{Constant}
+use Rattle.session_base.specs.declared.constant.Constant.TheVariants as constant
+use Rattle.session_base.specs.declared.ending.Ending.{Ending}
+use Rattle.session_base.specs.declared.ending.Ending.TheVariants as ending
+use Rattle.session_base.specs.declared.ending.Next.{Next}
+use Rattle.session_base.specs.declared.ending.Next.TheVariants as next
+use Rattle.session_base.specs.declared.manner.Manner.{Manner}
+use Rattle.session_base.specs.declared.settings.Settings.{Settings}
 use Rattle.session.specs.declared.turn.TheConstants.{BODY_LIMIT}
 
 -- the sink took a constant answer, or what it took of it
@@ -119,25 +119,13 @@ pub record Whole (settings : Settings) (asked : Asked) (head : HeadParts) (momen
     calls = inner.calls;
   }
 
--- what passes in a request of the control host, under which nothing stands yet
-pub record Absent (manner : Manner) (d : Doing) (after : Next) : Type 0 where
-  pub answer : Answer
-  pub fault : Bool
-  pub answered : IsShown (absent_shown manner) answer
-  pub takes : Takes answer d.written fault
-  pub bytes : d.bytes ≡ []
-  pub moments : d.moments ≡ []
-  pub exchanges : d.exchanges ≡ []
-  pub calls : d.calls ≡ []
-  pub goes : after ≡ next_of manner.leaves false fault
-
 -- the host of the target is the control host, or another one
 abbrev pub IsControl : Settings → Asked → Bool → Type 0
 IsControl settings asked answer = bytes_eq asked.target.host settings.control ≡ answer
 
--- a request that was read whole is of the control host or for content
-abbrev pub Answers : Settings → Place → Asked → Manner → Doing → Next → Type 0
-Answers settings place asked manner d after = (IsControl settings asked true × Absent manner d after)
+-- a request that was read whole, with this body, is of the upstream CDN, at the control host, or for content
+abbrev pub Answers : Settings → Place → Asked → List ℕ → Manner → Doing → Next → Type 0
+Answers settings place asked body manner d after = (IsControl settings asked true × Serves settings asked body manner d after)
     ⊎ (IsControl settings asked false × Content settings.root asked place manner d after)
 
 pub record Served (settings : Settings) (place : Place) (last : Bool) (d : Doing) (after : Next) : Type 0 where
@@ -146,7 +134,7 @@ pub record Served (settings : Settings) (place : Place) (last : Bool) (d : Doing
   pub moment : ℕ
   pub inner : Doing
   pub whole : Whole settings asked head moment inner d
-  pub answers : Answers settings place asked (manner_of head (capped moment) last) inner after
+  pub answers : Answers settings place asked whole.content (manner_of head (capped moment) last) inner after
 
 -- a request, which may be the last of its connection, or why there is none; and what follows
 abbrev pub Turn : Settings → Place → Bool → Doing → Next → Type 0

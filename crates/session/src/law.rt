@@ -1,28 +1,33 @@
 //! What holds of every session. Each function does nothing: its contract is the law.
 
-ghost use Rattle.std.specs.Prelude.{◌≡◌, ◌<◌, ◌↔◌, false, length};
+ghost use Rattle.std.specs.Prelude.{◌≡◌, ◌≢◌, ◌<◌, ◌↔◌, false, length};
 ghost use Rattle.cdni_base.specs.declared.asked.Asked.{Asked};
+ghost use Rattle.control_request.specs.Control.{Triggers};
+ghost use Rattle.control_request.specs.declared.advance.Step.TheVariants as step;
 ghost use Rattle.history.specs.Event.{History};
 ghost use Rattle.location_acl.specs.declared.footprint.Place.{Place};
 ghost use Rattle.node_core.specs.Home.{Who};
 ghost use Rattle.targets.specs.declared.target.Target.{Target};
-ghost use Rattle.session.specs.Answer.{wire};
+ghost use Rattle.session_base.specs.Answer.{wire};
 ghost use Rattle.session.specs.Answered.{answered};
-ghost use Rattle.session.specs.Course.{Content, IsAnswerOf};
-ghost use Rattle.session.specs.Doing.{Doing, Told};
+ghost use Rattle.content_request.specs.Course.{Content, IsAnswerOf};
+ghost use Rattle.session_base.specs.Doing.{Doing, Told};
 ghost use Rattle.session.specs.Ended.{AllEnded};
 ghost use Rattle.session.specs.Recorded.{AllRecorded};
 ghost use Rattle.session.specs.Session.{Session};
-ghost use Rattle.session.specs.Telling.{AllTellOf, BroughtNothing};
-ghost use Rattle.session.specs.declared.ending.Ending.{Ending};
-ghost use Rattle.session.specs.declared.ending.Ending.TheVariants as ending;
-ghost use Rattle.session.specs.declared.ending.Next.{Next};
-ghost use Rattle.session.specs.declared.manner.Manner.{Manner};
+ghost use Rattle.session.specs.Settled.{AllRest, AllSettle, RestsIn};
+ghost use Rattle.trigger_command.specs.Spec.{SpecParts};
+ghost use Rattle.content_request.specs.Telling.{AllTellOf, BroughtNothing};
+ghost use Rattle.session_base.specs.declared.ending.Ending.{Ending};
+ghost use Rattle.session_base.specs.declared.ending.Ending.TheVariants as ending;
+ghost use Rattle.session_base.specs.declared.ending.Next.{Next};
+ghost use Rattle.session_base.specs.declared.manner.Manner.{Manner};
 ghost use Rattle.session.specs.declared.serve.TheConstants.{TURNS_MAX};
-ghost use Rattle.session.specs.declared.settings.Settings.{Settings};
+ghost use Rattle.session_base.specs.declared.settings.Settings.{Settings};
 
 use delivery_law::log_rows::each_row_belongs_to_one_finish_and_one_admit;
 use history::laws::what_is_open_has_begun_and_not_ended;
+use trigger_law::final_triggers::a_final_trigger_stays_final;
 
 /// Each delivery that is admitted in a session is finished in it, and each fetch and refresh that is begun is ended.
 pub fn what_is_opened_is_ended()
@@ -82,3 +87,20 @@ pub fn a_thousand_answers_end_a_session()
         → (session : Session settings place d end)
         → end ≡ ending.Closed → answered session.0 end < TURNS_MAX }
 {}
+
+/// Each trigger that is created in a session makes its steps there until it has its last status or a step is refused: where it is
+/// deleted, another pass makes its steps, a limit is reached, or the step before is open. In the history to which the session
+/// leads it then has its last status, or it was deleted, or a step was refused. Only a session that ends for want of memory may
+/// have found none for a step of its last request's trigger.
+pub fn each_new_trigger_becomes_final()
+    ensures steps { (settings : Settings) (spec : SpecParts) (manner : Manner) (d : Doing) (after : Next)
+        → (trigger : Triggers settings spec manner d after)
+        → trigger.last ≢ step.Memory → RestsIn trigger.id trigger.steps.calls }
+    ensures rests { (settings : Settings) (place : Place) (d : Doing) (end : Ending)
+        → Session settings place d end → end ≢ ending.Memory → AllRest d.calls }
+    ensures settles { (who : Who) (settings : Settings) (place : Place) (d : Doing) (end : Ending) (h last : History)
+        → Session settings place d end → Told who h d.calls last → end ≢ ending.Memory
+        → AllSettle who.made last d.calls }
+{
+    a_final_trigger_stays_final();
+}

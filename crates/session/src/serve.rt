@@ -4,24 +4,22 @@ ghost use Rattle.std.specs.Prelude.{◌≡◌, ◌≤◌, ◌++◌, ℕ, [], Lis
 ghost use Rattle.std.specs.Io.KnownBytes.{Consumes};
 ghost use Rattle.edge_base.specs.Causes.{Rose};
 ghost use Rattle.history.specs.Event.{History};
-ghost use Rattle.session.specs.Doing.{Any, Does, Doing};
+ghost use Rattle.session_base.specs.Doing.{Any, Does, Doing};
 ghost use Rattle.session.specs.Law.{KeepsTheLaw};
 ghost use Rattle.session.specs.Session.{Leaves, Session};
 
-use crate::answer_room::AnswerRoom;
-use crate::content::fall_short;
-use crate::ending::{Ending, Next};
 use crate::law::{
     a_bad_gateway_comes_of_nothing_else, a_fetch_that_brings_nothing_is_a_bad_gateway,
     a_request_for_content_is_answered_whole, a_thousand_answers_end_a_session,
     each_delivery_of_a_session_has_its_row, the_end_of_a_delivery_tells_what_was_written,
     what_is_opened_is_ended,
 };
-use crate::settings::{Peer, Settings};
+use crate::limit_law::a_reached_limit_is_answered;
 use crate::turn::serve_one;
 use edge_base::{Clock, Sink, Source};
 use http_wire::Inbox;
 use node_core::{Home, every_answer_is_lawful};
+use session_base::{AnswerRoom, Ending, Next, Peer, Settings, fall_short};
 use std::alloc::{AllocError, Global};
 use std::sync::Wait;
 use std::thread::Threads;
@@ -72,6 +70,7 @@ pub fn serve_session<R: Threads + Wait + Sync, H: Home, S: Source, K: Sink, G: G
     a_request_for_content_is_answered_whole();
     a_thousand_answers_end_a_session();
     each_delivery_of_a_session_has_its_row();
+    a_reached_limit_is_answered();
     let Ok((mut inbox, mut room)) = make_room(alloc) else {
         return match fall_short(sink) {
             Next::Stops(ending) => ending,

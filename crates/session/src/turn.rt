@@ -5,26 +5,23 @@ ghost use Rattle.cdni_base.specs.declared.date.TheConstants.{DATE_END};
 ghost use Rattle.edge_base.specs.Causes.{Rose};
 ghost use Rattle.http_wire.specs.Moves.{Moves};
 ghost use Rattle.http_wire.specs.Head.{Spells};
-ghost use Rattle.session.specs.Answer.{IsConstant, Says};
-ghost use Rattle.session.specs.Doing.{Any, Does, Doing};
-ghost use Rattle.session.specs.Ending.{next_of};
+ghost use Rattle.session_base.specs.Answer.{IsConstant, Says};
+ghost use Rattle.session_base.specs.Doing.{Any, Does, Doing};
+ghost use Rattle.session_base.specs.Ending.{next_of};
 ghost use Rattle.session.specs.Session.{LeavesNext};
 ghost use Rattle.session.specs.Turn.{Answers, Turn, TurnBehind, bad_next};
 
-use crate::answer_room::AnswerRoom;
-use crate::clock::read_clock;
-use crate::constant::{Constant, refuse};
-use crate::content::{content, fall_short};
-use crate::ending::{Ending, Next, next_of};
-use crate::manner::Manner;
-use crate::request::read_request;
-use crate::send::Sent;
-use crate::settings::Settings;
 use cdni_base::{Asked, Moment};
+use content_request::content::content;
+use control_request::serve_control;
 use edge_base::{Clock, Sink, Source};
 use http_wire::{BodyRead, Head, HeadRead, Inbox, body_of, read_head};
 use location_acl::Place;
 use node_core::Home;
+use session_base::{
+    AnswerRoom, Constant, Ending, Manner, Next, Sent, Settings, fall_short, next_of, read_clock,
+    read_request, refuse,
+};
 use std::alloc::Global;
 use std::sync::Wait;
 use std::thread::Threads;
@@ -125,8 +122,19 @@ fn serve_head<R: Threads + Wait + Sync, H: Home, S: Source, K: Sink, G: Gate, C:
     let moment = read_clock(clock);
     match read_request(alloc, head, settings.protocol, moment, last) {
         Ok(Some((asked, manner))) => match body_of(alloc, source, inbox, head, BODY_LIMIT) {
-            BodyRead::Body(_) => serve_whole(
-                rt, alloc, home, place, sink, gate, clock, settings, room, asked, &manner,
+            BodyRead::Body(body) => serve_whole(
+                rt,
+                alloc,
+                home,
+                place,
+                sink,
+                gate,
+                clock,
+                settings,
+                room,
+                asked,
+                body.bytes(),
+                &manner,
             ),
             BodyRead::Coded => refuse_request(sink, Constant::LengthRequired, last),
             BodyRead::BadLength { taken: _ } => refuse_request(sink, Constant::BadRequest, last),
@@ -163,20 +171,22 @@ fn serve_whole<R: Threads + Wait + Sync, H: Home, K: Sink, G: Gate, C: Clock>(
     settings: &Settings,
     room: &mut AnswerRoom,
     asked: Asked,
+    body: &[u8],
     manner: &Manner,
 ) -> Next
     requires { manner.now.moment < DATE_END }
     ensures who { H.who home.new ≡ H.who home.old }
     ensures stays { H.stays home.old home.new }
-    ensures does { (d : Doing) × Answers settings.now place asked manner.now d result
+    ensures does { (d : Doing) × Answers settings.now place asked body.now manner.now d result
         × Does (H.who home.old) Any (H.has_seen home.old) (H.has_seen home.new) (C.given clock.old) (C.given clock.new)
         (G.exchanges gate.old) (G.exchanges gate.new) (K.held sink.old) (K.held sink.new) d }
     ensures later { K.faults sink.old ≤ K.faults sink.new }
     ensures write { result ≡ Next.Stops Ending.WriteFault → Rose (K.faults sink.old) (K.faults sink.new) }
 {
     if asked.target.host == settings.control {
-        let sent = room.miss_control(sink, manner);
-        return next_of(manner.leaves, false, sent.fault);
+        return serve_control(
+            rt, alloc, home, sink, gate, clock, settings, room, &asked, body, manner,
+        );
     }
     content(
         rt,

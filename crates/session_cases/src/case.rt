@@ -3,12 +3,12 @@
 use crate::telling::{TellingGate, TellingHome};
 use crate::{connection, field};
 use anyhow::bail;
-use cdni_base::{Body, Endpoint, Limits, Protocol, ProviderId, Target, TypeName};
+use cdni_base::{Body, Endpoint, Limits, Protocol, ProviderId, Target, Text, TextList, TypeName};
 use edge_base::ListClock;
 use history::{Call, Reply};
 use node_core::{Home, Node, OneHome};
 use serde_json::Value;
-use session::Settings;
+use session::{AdvertSettings, Settings};
 use std::alloc::{AllocError, Global};
 use std::sync::Wait;
 use std::thread::Threads;
@@ -84,6 +84,17 @@ fn gate_of(alloc: Global, case: &Value) -> anyhow::Result<TellingGate<MemoryGate
     })
 }
 
+fn advert_of(alloc: Global, protocol: Protocol, value: &Value) -> anyhow::Result<AdvertSettings> {
+    let mut footprints = TextList::new(alloc);
+    for footprint in field::list(value, "footprints")? {
+        footprints.push(Text::from_vec(field::bytes_of(alloc, footprint)?))?;
+    }
+    match AdvertSettings::new(protocol, footprints) {
+        Some(advert) => Ok(advert),
+        None => bail!("a footprint does not read"),
+    }
+}
+
 fn settings_of(alloc: Global, value: &Value) -> anyhow::Result<Settings> {
     let protocol = match field::text(value, "protocol")? {
         "http/1.1" => Protocol::Http,
@@ -105,6 +116,7 @@ fn settings_of(alloc: Global, value: &Value) -> anyhow::Result<Settings> {
         control: control.host,
         root,
         own,
+        advert: advert_of(alloc, protocol, value)?,
     })
 }
 
@@ -185,7 +197,9 @@ fn cuts_otherwise<R: Threads + Wait + Sync>(
 
 // The line with which the cut is to be answered.
 fn told_cut(alloc: Global, told: &Value) -> anyhow::Result<Vec<u8>> {
-    let mut line = Vec::from_slice(alloc, b"other: ")?;
+    let moment = field::number(told, "moment")?;
+    let front = format!(in alloc; "Cut {moment}: ")?;
+    let mut line = Vec::from_slice(alloc, front.as_bytes())?;
     line.extend_from_slice(&field::bytes(alloc, told, "reply")?)?;
     line.extend_from_slice(b"\n")?;
     Ok(line)

@@ -2,12 +2,14 @@
 
 use crate::field;
 use anyhow::bail;
-use cdni_base::Endpoint;
+use cdni_base::{Asked, Endpoint};
 use history::{Call, Reply};
 use metadata_objects::Tree;
 use script_line::put_reply_line;
 use serde_json::Value;
 use std::alloc::{AllocError, Global};
+use trigger_command::Spec;
+use trigger_status::{Filter, IndexList, Job, JobStatus, job_json};
 use upstream_gate::{Ask, Outcome};
 
 // Adds a word behind a space.
@@ -65,44 +67,32 @@ fn put_outcome(alloc: Global, out: &mut Vec<u8>, outcome: &Outcome) -> Result<()
 // Adds a call of a session, without a line's end.
 pub fn put_call(alloc: Global, out: &mut Vec<u8>, call: &Call) -> Result<(), AllocError> {
     match call {
-        Call::RefreshBegin { moment } => {
-            out.extend_from_slice(b"RefreshBegin")?;
-            put_number(alloc, out, *moment)
+        Call::Admit { .. } | Call::Finish { .. } => put_delivery_call(alloc, out, call),
+        Call::RefreshBegin { .. } | Call::RefreshEnd { .. } | Call::FetchEnd { .. } => {
+            put_asking_call(alloc, out, call)
         }
-        Call::RefreshEnd {
-            refresh,
-            tree,
-            moment,
-        } => {
-            out.extend_from_slice(b"RefreshEnd")?;
-            put_number(alloc, out, *refresh)?;
-            put_tree(out, tree)?;
-            put_number(alloc, out, *moment)
+        Call::Command { .. } | Call::Advance { .. } | Call::Cancel { .. } => {
+            put_step_call(alloc, out, call)
         }
+        Call::Delete { .. } | Call::ReadStatus { .. } | Call::List { .. } => {
+            put_trigger_call(alloc, out, call)
+        }
+        Call::Cut { .. } | Call::LogFile { .. } | Call::ListLogs | Call::DropLog { .. } => {
+            put_log_call(alloc, out, call)
+        }
+    }
+}
+
+// Adds the call of a delivery.
+fn put_delivery_call(alloc: Global, out: &mut Vec<u8>, call: &Call) -> Result<(), AllocError> {
+    match call {
         Call::Admit {
             asked,
             place: _,
             moment,
         } => {
             out.extend_from_slice(b"Admit")?;
-            put_word(out, asked.method.bytes())?;
-            put_word(out, asked.target.host.bytes())?;
-            put_number(alloc, out, u64::from(asked.target.port))?;
-            put_word(out, asked.target.path.bytes())?;
-            match &asked.target.query {
-                Some(query) => put_word(out, query.bytes())?,
-                None => put_word(out, b"none")?,
-            }
-            put_number(alloc, out, *moment)
-        }
-        Call::FetchEnd {
-            fetch,
-            outcome,
-            moment,
-        } => {
-            out.extend_from_slice(b"FetchEnd")?;
-            put_number(alloc, out, *fetch)?;
-            put_outcome(alloc, out, outcome)?;
+            put_asked(alloc, out, asked)?;
             put_number(alloc, out, *moment)
         }
         Call::Finish {
@@ -119,7 +109,127 @@ pub fn put_call(alloc: Global, out: &mut Vec<u8>, call: &Call) -> Result<(), All
             put_number(alloc, out, *entity)?;
             put_number(alloc, out, *moment)
         }
-        _ => out.extend_from_slice(b"other"),
+        _ => Ok(()),
+    }
+}
+
+// Adds what is asked for.
+fn put_asked(alloc: Global, out: &mut Vec<u8>, asked: &Asked) -> Result<(), AllocError> {
+    put_word(out, asked.method.bytes())?;
+    put_word(out, asked.target.host.bytes())?;
+    put_number(alloc, out, u64::from(asked.target.port))?;
+    put_word(out, asked.target.path.bytes())?;
+    match &asked.target.query {
+        Some(query) => put_word(out, query.bytes()),
+        None => put_word(out, b"none"),
+    }
+}
+
+// Adds the call of a refresh or a fetch.
+fn put_asking_call(alloc: Global, out: &mut Vec<u8>, call: &Call) -> Result<(), AllocError> {
+    match call {
+        Call::RefreshBegin { moment } => put_named(alloc, out, b"RefreshBegin", *moment),
+        Call::RefreshEnd {
+            refresh,
+            tree,
+            moment,
+        } => {
+            put_named(alloc, out, b"RefreshEnd", *refresh)?;
+            put_tree(out, tree)?;
+            put_number(alloc, out, *moment)
+        }
+        Call::FetchEnd {
+            fetch,
+            outcome,
+            moment,
+        } => {
+            put_named(alloc, out, b"FetchEnd", *fetch)?;
+            put_outcome(alloc, out, outcome)?;
+            put_number(alloc, out, *moment)
+        }
+        _ => Ok(()),
+    }
+}
+
+// Adds a name and a number.
+fn put_named(alloc: Global, out: &mut Vec<u8>, name: &[u8], number: u64) -> Result<(), AllocError> {
+    out.extend_from_slice(name)?;
+    put_number(alloc, out, number)
+}
+
+// Adds a command, a step or a cancel.
+fn put_step_call(alloc: Global, out: &mut Vec<u8>, call: &Call) -> Result<(), AllocError> {
+    match call {
+        Call::Command { spec, moment } => {
+            out.extend_from_slice(b"Command")?;
+            put_resource(alloc, out, spec, *moment)?;
+            put_number(alloc, out, *moment)
+        }
+        Call::Advance { id, moment } => {
+            put_named(alloc, out, b"Advance", *id)?;
+            put_number(alloc, out, *moment)
+        }
+        Call::Cancel { ids, moment } => {
+            out.extend_from_slice(b"Cancel")?;
+            for id in ids.as_slice() {
+                put_number(alloc, out, *id)?;
+            }
+            put_number(alloc, out, *moment)
+        }
+        _ => Ok(()),
+    }
+}
+
+// Adds the status resource of a trigger that is commanded.
+fn put_resource(
+    alloc: Global,
+    out: &mut Vec<u8>,
+    spec: &Spec,
+    moment: u64,
+) -> Result<(), AllocError> {
+    let job = Job {
+        id: 0,
+        spec: spec.clone()?,
+        status: JobStatus::Pending,
+        ctime: moment,
+        mtime: moment,
+        emeta: false,
+        econtent: IndexList::new(alloc)?,
+    };
+    put_word(out, job_json(alloc, &job)?.bytes())
+}
+
+// Adds the call that deletes a trigger or reads triggers.
+fn put_trigger_call(alloc: Global, out: &mut Vec<u8>, call: &Call) -> Result<(), AllocError> {
+    match call {
+        Call::Delete { id } => put_named(alloc, out, b"Delete", *id),
+        Call::ReadStatus { id } => put_named(alloc, out, b"ReadStatus", *id),
+        Call::List { filter } => {
+            out.extend_from_slice(b"List")?;
+            put_word(out, filter_name(*filter))
+        }
+        _ => Ok(()),
+    }
+}
+
+fn filter_name(filter: Filter) -> &'static [u8] {
+    match filter {
+        Filter::All => b"all",
+        Filter::Pending => b"pending",
+        Filter::Active => b"active",
+        Filter::Complete => b"complete",
+        Filter::Failed => b"failed",
+    }
+}
+
+// Adds the call of log files.
+fn put_log_call(alloc: Global, out: &mut Vec<u8>, call: &Call) -> Result<(), AllocError> {
+    match call {
+        Call::Cut { moment } => put_named(alloc, out, b"Cut", *moment),
+        Call::LogFile { number } => put_named(alloc, out, b"LogFile", *number),
+        Call::ListLogs => out.extend_from_slice(b"ListLogs"),
+        Call::DropLog { number } => put_named(alloc, out, b"DropLog", *number),
+        _ => Ok(()),
     }
 }
 
@@ -193,34 +303,81 @@ fn put_told_query(alloc: Global, out: &mut Vec<u8>, call: &Value) -> anyhow::Res
 fn put_told_call(alloc: Global, out: &mut Vec<u8>, call: &Value) -> anyhow::Result<()> {
     let name = field::text(call, "call")?;
     out.extend_from_slice(name.as_bytes())?;
-    match name {
-        "RefreshBegin" => {}
-        "RefreshEnd" => {
-            put_field(alloc, out, call, "refresh")?;
-            put_told_tree(alloc, out, field::get(call, "tree")?)?;
-        }
-        "Admit" => {
-            put_bytes(alloc, out, call, "method")?;
-            put_bytes(alloc, out, call, "host")?;
-            put_field(alloc, out, call, "port")?;
-            put_bytes(alloc, out, call, "path")?;
-            put_told_query(alloc, out, call)?;
-        }
-        "FetchEnd" => {
-            put_field(alloc, out, call, "fetch")?;
-            put_told_outcome(alloc, out, field::get(call, "outcome")?)?;
-        }
-        "Finish" => {
-            for field in ["delivery", "status", "total", "entity"] {
-                put_field(alloc, out, call, field)?;
-            }
-        }
-        _ => bail!("a call is unknown"),
+    put_told_middle(alloc, out, name, call)?;
+    if call.get("moment").is_some() {
+        put_field(alloc, out, call, "moment")?;
     }
-    put_field(alloc, out, call, "moment")?;
     out.extend_from_slice(b":")?;
     put_bytes(alloc, out, call, "reply")?;
     out.extend_from_slice(b"\n")?;
+    Ok(())
+}
+
+// Adds what a call says but for its moment.
+fn put_told_middle(
+    alloc: Global,
+    out: &mut Vec<u8>,
+    name: &str,
+    call: &Value,
+) -> anyhow::Result<()> {
+    if name == "Admit" {
+        return put_told_admit(alloc, out, call);
+    }
+    if name == "RefreshEnd" {
+        put_field(alloc, out, call, "refresh")?;
+        return put_told_tree(alloc, out, field::get(call, "tree")?);
+    }
+    if name == "FetchEnd" {
+        put_field(alloc, out, call, "fetch")?;
+        return put_told_outcome(alloc, out, field::get(call, "outcome")?);
+    }
+    if name == "Command" {
+        return put_told_command(alloc, out, call);
+    }
+    if name == "Cancel" {
+        return put_told_ids(alloc, out, field::get(call, "ids")?);
+    }
+    if name == "List" {
+        return put_bytes(alloc, out, call, "filter");
+    }
+    put_told_numbers(alloc, out, call)
+}
+
+fn put_told_admit(alloc: Global, out: &mut Vec<u8>, call: &Value) -> anyhow::Result<()> {
+    put_bytes(alloc, out, call, "method")?;
+    put_bytes(alloc, out, call, "host")?;
+    put_field(alloc, out, call, "port")?;
+    put_bytes(alloc, out, call, "path")?;
+    put_told_query(alloc, out, call)
+}
+
+// Adds the numbers of a call that has no other fields.
+fn put_told_numbers(alloc: Global, out: &mut Vec<u8>, call: &Value) -> anyhow::Result<()> {
+    for field in ["delivery", "status", "total", "entity", "id", "number"] {
+        if call.get(field).is_some() {
+            put_field(alloc, out, call, field)?;
+        }
+    }
+    Ok(())
+}
+
+// Adds the status resource that the command of this trigger has.
+fn put_told_command(alloc: Global, out: &mut Vec<u8>, call: &Value) -> anyhow::Result<()> {
+    let second = field::number(call, "moment")? / 1000;
+    let front = format!(in alloc;
+        " {{\"ctime\":{second},\"mtime\":{second},\"status\":\"pending\",\"trigger\":"
+    )?;
+    out.extend_from_slice(front.as_bytes())?;
+    let trigger = field::bytes(alloc, call, "trigger")?;
+    out.extend_from_slice(&trigger)?;
+    out.extend_from_slice(b"}")?;
+    Ok(())
+}
+
+fn put_told_ids(alloc: Global, out: &mut Vec<u8>, ids: &Value) -> anyhow::Result<()> {
+    for id in field::list_of(ids)? {
+        put_number(alloc, out, field::number_of(id)?)?;
+    }
     Ok(())
 }
 

@@ -20,9 +20,9 @@ use Rattle.history.specs.declared.reply.Reply.{Reply}
 use Rattle.location_acl.specs.declared.line.PlaceLine.{PlaceLine}
 use Rattle.node_core.specs.Home.{Who}
 use Rattle.node_core.specs.Law.{IsLawful}
-use Rattle.session.specs.Doing.{Told}
+use Rattle.session_base.specs.Doing.{Told}
 use Rattle.session.specs.Law.{KeepsTheLaw}
-use Rattle.session.specs.declared.settings.Settings.{Settings}
+use Rattle.session_base.specs.declared.settings.Settings.{Settings}
 use Rattle.workers.proofs.HiringLemmas.{diary_same, diary_then}
 use Rattle.workers.proofs.JobLemmas.{all_done, all_worked, as_many}
 use Rattle.workers.specs.Crew.{AllEnd, AllTold, AreShifts, Dismissed, EndsWell, GaveBack, IsOneHistory, Served, Serves, Shift, after_end, refused, refused_status, shift_calls, status_of}

@@ -19,7 +19,7 @@ use Rattle.history.specs.declared.call.Call.{Call}
 use Rattle.node_cell.specs.Entries.{entry_of, history_of}
 use Rattle.node_cell.specs.Standing.{Standing}
 use Rattle.node_core.specs.Home.{AreOthers, Who}
-use Rattle.session.specs.Doing.{Called, Told}
+use Rattle.session_base.specs.Doing.{Called, Told}
 use Rattle.turn_cell.proofs.Histories.{head_in, numbers_from-has, numbers_from-push}
 use Rattle.turn_cell.specs.Cell.{IsResting, SitsAt, numbers_in, numbers_of, seen_in, seen_of}
 use Rattle.turn_cell.specs.History.{AllBelow, FollowedByOthers, NoneOf, numbers_from}

@@ -13,7 +13,7 @@ use Rattle.history.specs.World.{Made}
 use Rattle.history.specs.declared.call.Call.{Call}
 use Rattle.node_cell.specs.Entries.{history_of}
 use Rattle.node_core.specs.Home.{Who}
-use Rattle.session.specs.Doing.{Called, Told}
+use Rattle.session_base.specs.Doing.{Called, Told}
 use Rattle.workers.specs.Crew.{IsBookOf, IsShift, Shift, shift_calls}
 use Rattle.workers.specs.Job.{AllWorked, DoneFrom, IsDone, IsInCell, IsReady, Post, ReadyFrom, Worked}
 use Rattle.workers.specs.declared.crew.Crew.{Crew}

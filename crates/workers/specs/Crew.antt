@@ -16,9 +16,9 @@ use Rattle.edge_base.specs.declared.status.Status.TheVariants as status
 use Rattle.history.specs.Event.{History}
 use Rattle.history.specs.World.{Made}
 use Rattle.location_acl.specs.declared.line.PlaceLine.{PlaceLine}
-use Rattle.session.specs.Doing.{Called, Told}
+use Rattle.session_base.specs.Doing.{Called, Told}
 use Rattle.session.specs.Law.{KeepsTheLaw}
-use Rattle.session.specs.declared.settings.Settings.{Settings}
+use Rattle.session_base.specs.declared.settings.Settings.{Settings}
 use Rattle.workers.specs.declared.crew.Crew.{Crew}
 use Rattle.workers.specs.declared.hiring.Unhired.{Unhired}
 use Rattle.workers.specs.declared.hiring.Unhired.TheVariants as unhired

@@ -10,7 +10,7 @@ use Rattle.edge_base.specs.Causes.{Rose}
 use Rattle.history.specs.World.{Made}
 use Rattle.node_cell.specs.Entries.{history_of}
 use Rattle.node_cell.specs.Standing.{Standing, StaysIn}
-use Rattle.session.specs.Doing.{Told}
+use Rattle.session_base.specs.Doing.{Told}
 use Rattle.workers.specs.Crew.{IsShift, Shift, shift_calls}
 use Rattle.workers.specs.declared.crew.Crew.{Crew}
 use Rattle.workers.specs.declared.job.Job.{Job}

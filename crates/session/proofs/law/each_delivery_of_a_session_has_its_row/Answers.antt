@@ -1,4 +1,4 @@
-use Rattle.session.specs.Doing.{nothing}
+use Rattle.session_base.specs.Doing.{nothing}
 use Rattle.session.proofs.RecordedLemmas.{all_recorded, runs_logs}
 use Rattle.session.proofs.law.each_delivery_of_a_session_has_its_row.Goals as goal
 

@@ -1,4 +1,4 @@
-use Rattle.session.specs.Doing.{nothing}
+use Rattle.session_base.specs.Doing.{nothing}
 use Rattle.session.proofs.EndedLemmas.{runs_ended}
 use Rattle.session.proofs.law.what_is_opened_is_ended.Goals as goal
 

@@ -1,6 +1,7 @@
-use Rattle.std.proofs.Common.{[], refl, sym, ◌∙◌}
+use Rattle.std.proofs.Common.{ℕ, List, [], refl, subst, sym, ◌∙◌}
+use Rattle.session.specs.Turn.{Answers}
 use Rattle.http_wire.specs.Body.{framing_of}
-use Rattle.session.specs.declared.constant.Constant.TheVariants as constant
+use Rattle.session_base.specs.declared.constant.Constant.TheVariants as constant
 use Rattle.http_wire.proofs.MoveLemmas.{moves_nothing}
 use Rattle.session.proofs.TurnLemmas.{body_bad, body_coded, body_cut, body_fault, body_large, body_short, body_whole, broken, broken_short, dated, manner_at, read_none, read_some, refused, refused_body, refused_head, served}
 use Rattle.session.proofs.turn.serve_head.Goals as goal
@@ -9,10 +10,11 @@ pub returns-in-Body-clause-does : goal.returns-in-Body-clause-does
 returns-in-Body-clause-does g c = λ front spells.
     let clock = c.read_clock-moment.ensures.read in
     let read = read_some _ _ _ _ _ (sym c.in-Ok-Some.field-0-is ∙ c.in-Ok-Some.ensures) in
-    let whole = body_whole (framing_of c.args.head.now.headers) (g.S.Source.left c.args.source.now) (g.S.Source.left c.body_of.new.source) c.args.inbox.now c.body_of.new.inbox c.in-Body.field-0 c.in-Body.ensures.bytes in
+    let whole = body_whole (framing_of c.args.head.now.headers) (g.S.Source.left c.args.source.now) (g.S.Source.left c.body_of.new.source) c.args.inbox.now c.body_of.new.inbox c.in-Body.body c.in-Body.ensures.bytes in
     let rest = c.serve_whole.ensures.does in
-    served front c.in-Body.field-0 _ _ _ _ _ _ _ _ _ _ _ _ _ _ c.args.settings.now c.args.place c.args.last c.args.head.now clock.0 c.in-Ok-Some.asked c.in-Ok-Some.manner c.serve_whole.result rest.0 spells read.0
-    (manner_at c.args.head.now _ clock.0 c.args.last c.in-Ok-Some.manner read.1 clock.2) whole.0 clock.1 whole.1 rest.1 rest.2
+    let answers = subst (λ (x : List ℕ). Answers c.args.settings.now c.args.place c.in-Ok-Some.asked x c.in-Ok-Some.manner rest.0 c.serve_whole.result) c.bytes.ensures rest.1 in
+    served front c.in-Body.body _ _ _ _ _ _ _ _ _ _ _ _ _ _ c.args.settings.now c.args.place c.args.last c.args.head.now clock.0 c.in-Ok-Some.asked c.in-Ok-Some.manner c.serve_whole.result rest.0 spells read.0
+    (manner_at c.args.head.now _ clock.0 c.args.last c.in-Ok-Some.manner read.1 clock.2) whole.0 clock.1 whole.1 answers rest.2
 
 pub returns-in-Coded-clause-does : goal.returns-in-Coded-clause-does
 returns-in-Coded-clause-does g c = λ front spells.

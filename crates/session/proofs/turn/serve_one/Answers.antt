@@ -1,5 +1,5 @@
 use Rattle.std.proofs.Common.{[], refl}
-use Rattle.session.specs.declared.ending.Ending.TheVariants as ending
+use Rattle.session_base.specs.declared.ending.Ending.TheVariants as ending
 use Rattle.session.proofs.TurnLemmas.{bad_head, cleared, headed, no_head, short_of_head}
 use Rattle.session.proofs.turn.serve_one.Goals as goal
 

@@ -1,0 +1,4 @@
+pub mod AdvanceLemmas
+mod AnswerLemmas
+pub mod CallLemmas
+pub mod ControlLemmas

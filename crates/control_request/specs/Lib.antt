@@ -1,0 +1,4 @@
+pub mod Advance
+pub mod Answer
+pub mod Control
+pub mod Lists

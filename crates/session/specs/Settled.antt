@@ -1,0 +1,54 @@
+-- What becomes of the triggers that are created in a list of calls (RFC 8007, sections 2 and 4.3).
+use Rattle.std.specs.Prelude.{◌≡◌, ◌⊎◌, ℕ, Bool, true, false, ◌&&◌, ◌==◌, List, [], ◌∷◌, None, Some}
+use Rattle.std.specs.List.{list_any}
+use Rattle.std.specs.declared.option.Option.{Option}
+use Rattle.history.specs.After.{created_trigger}
+use Rattle.history.specs.Event.{History, Command, Advance}
+use Rattle.history.specs.History.{world_of}
+use Rattle.history.specs.World.{Made}
+use Rattle.history.specs.declared.reply.Reply.{Reply}
+use Rattle.history.specs.declared.reply.Reply.TheVariants as reply
+use Rattle.session_base.specs.Doing.{Called}
+use Rattle.trigger_law.specs.FinalTriggers.{IsFinalIn, deletes}
+
+-- the trigger that a call has created
+abbrev pub new_trigger : Called → Option ℕ
+new_trigger (Command spec moment, answer) = created_trigger answer
+new_trigger call = None
+
+-- a step is refused: the trigger is deleted, another pass makes its steps, a limit is reached, or the step before is open
+abbrev pub is_refusal : Reply → Bool
+is_refusal (reply.Unknown id) = true
+is_refusal (reply.Claimed pass) = true
+is_refusal (reply.Full count) = true
+is_refusal (reply.StepOpen number) = true
+is_refusal answer = false
+
+-- there is no further step: the trigger has its last status, or the step is refused
+abbrev pub is_rest : Reply → Bool
+is_rest (reply.Final status) = true
+is_rest answer = is_refusal answer
+
+-- a step of this trigger is answered so
+abbrev pub steps_so : (Reply → Bool) → ℕ → Called → Bool
+steps_so so id (Advance other moment, answer) = other == id && so answer
+steps_so so id call = false
+
+-- it makes steps among these calls until there is none more
+abbrev pub RestsIn : ℕ → List Called → Type 0
+RestsIn id calls = list_any (steps_so is_rest id) calls ≡ true
+
+-- so does each trigger that is created among them, behind its creation
+abbrev pub AllRest : List Called → Type 0
+AllRest [] = Unit {0}
+AllRest (call ∷ calls) = ((id : ℕ) → new_trigger call ≡ Some id → RestsIn id calls) × AllRest calls
+
+-- In the history to which these calls lead it has its last status, or it was deleted; or one of its steps was refused.
+abbrev pub Settles : Made → History → ℕ → List Called → Type 0
+Settles made last id calls = IsFinalIn (world_of made last) id
+    ⊎ ((list_any (deletes id) last ≡ true) ⊎ (list_any (steps_so is_refusal id) calls ≡ true))
+
+-- so is it with each trigger that is created among them
+abbrev pub AllSettle : Made → History → List Called → Type 0
+AllSettle made last [] = Unit {0}
+AllSettle made last (call ∷ calls) = ((id : ℕ) → new_trigger call ≡ Some id → Settles made last id calls) × AllSettle made last calls

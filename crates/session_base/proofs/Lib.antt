@@ -1,0 +1,5 @@
+pub mod AnswerLemmas
+pub mod DoingLemmas
+pub mod GatheringLemmas
+pub mod OpenLemmas
+pub mod RequestLemmas

@@ -1,7 +1,7 @@
 -- The command that serves.
-use Rattle.std.proofs.Common.{◌≡◌, ◌≢◌, ◌⊎◌, ℕ, ◌+◌, ◌≤◌, List, [], ◌∷◌, ◌++◌, All, length, None, Some, refl, sym, ◌∙◌, ap, subst, inl, inr, arith, append-nil, length-append, true}
+use Rattle.std.proofs.Common.{◌≡◌, ◌≢◌, ◌⊎◌, ℕ, suc, ◌+◌, ◌≤◌, List, [], ◌∷◌, ◌++◌, All, length, None, Some, refl, sym, ◌∙◌, ap, subst, inl, inr, arith, append-nil, length-append, true}
 use Rattle.std.proofs.lemmas.Option.{same_Some}
-use Rattle.std.specs.Prelude.{replicate, Ok, Err, IsSome, String}
+use Rattle.std.specs.Prelude.{replicate, Ok, Err, IfErr, IfOk, IsSome, String}
 use Rattle.std.specs.declared.alloc.Global.{Global}
 use Rattle.std.specs.declared.result.Result.{Result}
 use Rattle.std.specs.declared.option.Option.{Option}
@@ -12,17 +12,22 @@ use Rattle.doors.specs.declared.outside.OutsideFault.TheVariants as fault
 use Rattle.edge_base.specs.Causes.{Rose}
 use Rattle.edge_base.specs.declared.status.Status.{Status}
 use Rattle.edge_base.specs.declared.status.Status.TheVariants as status
+use Rattle.cdni_base.specs.Limits.{Bounds}
+use Rattle.footprints.specs.Settings.{AdvertParts}
 use Rattle.location_acl.specs.Line.{AreLines, StopsAt}
 use Rattle.location_acl.specs.declared.line.PlaceLine.{PlaceLine}
 use Rattle.serve_words.specs.Options.{options_of}
 use Rattle.serve_words.specs.declared.options.Options.{Options}
 use Rattle.session_base.specs.declared.settings.Settings.{Settings}
 use Rattle.workers.proofs.CrewLemmas.{IsEnd, is_end}
-use Rattle.workers.proofs.HiringLemmas.{diary_then}
+use Rattle.workers.proofs.HiringLemmas.{diary_same, diary_then}
+use Rattle.workers.specs.declared.crew.Crew.{Crew}
+use Rattle.history.specs.World.{Made}
+use Rattle.http_node.specs.Note.{IsNoted, serve_note}
 use Rattle.workers.specs.Crew.{AreShifts, Dismissed, GaveBack, Served, Serves, Shift, fault_status, refused, refused_status}
 use Rattle.workers.specs.declared.hiring.Unhired.{Unhired}
 use Rattle.workers.specs.declared.hiring.Unhired.TheVariants as unhired
-use Rattle.http_node.specs.Serve.{HasNoTable, IsCommand, IsTable, Listens, ListensAndServes, ListensNot, Manned, Places, Stops, StopsSo, crew_of, line_of, made_of, settings_of, status_at}
+use Rattle.http_node.specs.Serve.{HasNoTable, IsCommand, IsTable, IsUnread, Listens, ListensAndServes, ListensNot, Manned, Places, Stops, StopsSo, crew_of, line_of, made_of, settings_of, status_at}
 use Rattle.http_node.specs.declared.serve.ServeEnd.{ServeEnd}
 use Rattle.http_node.specs.declared.serve.ServeEnd.TheVariants as serve_end
 
@@ -71,10 +76,10 @@ no_stop number stops =
     let e : length {A = ℕ} [] ≡ length (stops.front ++ stops.rest) = ap length stops.parts in
     omega (arith, e, length-append stops.front stops.rest, stops.more)
 
-pub failed_rose : {A : Type 0} (a b : ℕ) (met : OutsideFault) → HasFaultCause {A = A} a b (Err met) → met ≡ fault.Failed → Rose a b
-failed_rose a b fault.BadAddress cause is = absurd (cc)
-failed_rose a b fault.Failed cause is = cause
-failed_rose a b fault.Memory cause is = absurd (cc)
+pub failed_rose : (A : Type 0) (a b : ℕ) (met : OutsideFault) → HasFaultCause {A = A} a b (Err met) → met ≡ fault.Failed → Rose a b
+failed_rose A a b fault.BadAddress cause is = absurd (cc)
+failed_rose A a b fault.Failed cause is = cause
+failed_rose A a b fault.Memory cause is = absurd (cc)
 
 pub err_same : {A : Type 0} (a b : OutsideFault) → ◌≡◌ {A = Result A OutsideFault} (Err a) (Err b) → a ≡ b
 err_same a b is = cc
@@ -111,7 +116,7 @@ module _ (options : Options) (old new : Option Diary) (returned returned' faults
     calls = (calls, [], diary, inl (record { asked = asked; none_back = refl; no_line = refl; ends_so = refl }));
     outside = λ is. absurd (cc);
     address = λ none. inr refl;
-    line = tt;
+    bad_line = tt;
   }
 
   pub no_room : DiaryGrows old new [] [] → IsCommand options old new returned returned' faults faults' None status.Memory
@@ -125,7 +130,7 @@ module _ (options : Options) (old new : Option Diary) (returned returned' faults
     calls = (calls, [], diary, inr (inl (record { path = path; is_path = is; none = (text, called, stops, refl); none_back = refl })));
     outside = λ e. inl refl;
     address = λ none. inl refl;
-    line = refl;
+    bad_line = refl;
   }
 
   no_file : (path : List ℕ) (met : OutsideFault) (calls : List Asked) → options.places ≡ Some path → DiaryGrows old new calls [] → calls ≡ Placed path (Err met) ∷ [] → met ≢ fault.BadAddress → (met ≡ fault.Failed → Rose faults faults')
@@ -137,7 +142,7 @@ module _ (options : Options) (old new : Option Diary) (returned returned' faults
     calls = (calls, [], diary, inr (inl (record { path = path; is_path = is; none = (met, called, refl); none_back = refl })));
     outside = λ e. inr (fault_outside met (λ bad. absurd (other bad)) rose e);
     address = λ none. swapped (fault_kind met);
-    line = tt;
+    bad_line = tt;
   }
 
   stops_so : (path : List ℕ) (calls : List Asked) (end : ServeEnd) → options.places ≡ Some path → DiaryGrows old new calls [] → StopsSo path calls faults faults' end → IsCommand options old new returned returned' faults faults' (line_of end) (status_at end)
@@ -184,7 +189,7 @@ module _ (options : Options) (asked : List Asked) (places : List PlaceLine) (tab
     );
     outside = λ is. inr (fault_outside l.met l.bad (λ met. rose_since (l.failed met)) (sym l.ends_so ∙ is));
     address = λ none. subst (λ (s : Status). (s ≡ status.Outside) ⊎ (s ≡ status.Memory)) (sym l.ends_so) (swapped (fault_kind l.met));
-    line = tt;
+    bad_line = tt;
   }
     where
       rose_since : Rose faults1 faults' → Rose faults faults'
@@ -226,7 +231,7 @@ module _ (options : Options) (asked : List Asked) (places : List PlaceLine) (tab
     );
     outside = λ is. inr (inr (omega (arith, s.failed is, l.later, less)));
     address = λ none. absurd (l.reads none);
-    line = tt;
+    bad_line = tt;
   }
 
   all_dismissed : (l : ListensAndServes options.address (made_of options) (crew_of options places) middle new returned returned' faults1 faults' result) → Dismissed (crew_of options places) l.middle new l.returned_then returned' l.faults_then faults' result
@@ -253,7 +258,7 @@ module _ (options : Options) (asked : List Asked) (places : List PlaceLine) (tab
     );
     outside = λ is. inr (inr (omega (arith, d.failed is, l.later, less)));
     address = λ none. absurd (l.reads none);
-    line = tt;
+    bad_line = tt;
   }
     where
       kind : (result ≡ status.Memory) ⊎ (result ≡ status.Outside)
@@ -270,3 +275,82 @@ module _ (options : Options) (asked : List Asked) (places : List PlaceLine) (tab
           → IsCommand options old new returned returned' faults faults' None result
       serves_so l (inl s) = served_all l s
       serves_so l (inr d) = all_dismissed l d
+
+-- ---- finding the table
+
+unread_stops : (path text : List ℕ) (faults faults' : ℕ) (end : ServeEnd) → IsUnread text end → StopsSo path (Placed path (Ok text) ∷ []) faults faults' end
+unread_stops path text faults faults' (serve_end.Ended result) unread = inl (text, refl, unread)
+unread_stops path text faults faults' (serve_end.BadPlace line) unread = (text, refl, unread)
+
+pub found_after : (path bytes text shown : List ℕ) (old new : Option Diary) (result : Result (List PlaceLine) ServeEnd) → bytes ≡ path → shown ≡ text → DiaryGrows old new (Placed bytes (Ok text) ∷ []) [] → IfOk result (λ places. AreLines shown places)
+    → IfOk result (λ places. (asked : List Asked) × IsTable (Some path) asked places × DiaryGrows old new asked [])
+found_after path bytes text shown old new (Ok places) same read diary are =
+    (Placed path (Ok text) ∷ [], (text, refl, subst (λ (l : List ℕ). AreLines l places) read are), subst (λ (l : List ℕ). DiaryGrows old new (Placed l (Ok text) ∷ []) []) same diary)
+found_after path bytes text shown old new (Err end) same read diary are = tt
+
+pub none_after : (path bytes text shown : List ℕ) (old new : Option Diary) (faults faults' : ℕ) (result : Result (List PlaceLine) ServeEnd) → bytes ≡ path → shown ≡ text → DiaryGrows old new (Placed bytes (Ok text) ∷ []) [] → IfErr result (λ end. IsUnread shown end)
+    → IfErr result (λ end. Stops (Some path) old new faults faults' end)
+none_after path bytes text shown old new faults faults' (Ok places) same read diary unread = tt
+none_after path bytes text shown old new faults faults' (Err end) same read diary unread =
+    (Placed path (Ok text) ∷ [], subst (λ (l : List ℕ). DiaryGrows old new (Placed l (Ok text) ∷ []) []) same diary, unread_stops path text faults faults' end (subst (λ (l : List ℕ). IsUnread l end) read unread))
+
+pub no_text : (path bytes : List ℕ) (met : OutsideFault) (result : Status) (old new : Option Diary) (faults faults' : ℕ) → bytes ≡ path → DiaryGrows old new (Placed bytes (Err met) ∷ []) [] → result ≡ fault_status met → met ≢ fault.BadAddress → (met ≡ fault.Failed → Rose faults faults')
+    → Stops (Some path) old new faults faults' (serve_end.Ended result)
+no_text path bytes met result old new faults faults' same diary ends other rose = (Placed path (Err met) ∷ [], subst (λ (l : List ℕ). DiaryGrows old new (Placed l (Err met) ∷ []) []) same diary, inr (met, refl, ends, other, rose))
+
+pub none_unread : (result : Result (List PlaceLine) ServeEnd) → IfErr result (λ end. IsUnread [] end) → IfErr result (λ end. end ≡ serve_end.Ended status.Memory)
+none_unread (Ok places) unread = tt
+none_unread (Err (serve_end.Ended result)) unread = ap serve_end.Ended unread
+none_unread (Err (serve_end.BadPlace line)) unread = absurd (no_stop line unread)
+
+pub found_at : (path other : Option (List ℕ)) (old new : Option Diary) (result : Result (List PlaceLine) ServeEnd) → path ≡ other → IfOk result (λ places. (asked : List Asked) × IsTable other asked places × DiaryGrows old new asked [])
+    → IfOk result (λ places. (asked : List Asked) × IsTable path asked places × DiaryGrows old new asked [])
+found_at path other old new result same found = subst (λ (p : Option (List ℕ)). IfOk result (λ places. (asked : List Asked) × IsTable p asked places × DiaryGrows old new asked [])) (sym same) found
+
+pub none_at : (path other : Option (List ℕ)) (old new : Option Diary) (faults faults' : ℕ) (result : Result (List PlaceLine) ServeEnd) → path ≡ other → IfErr result (λ end. Stops other old new faults faults' end) → IfErr result (λ end. Stops path old new faults faults' end)
+none_at path other old new faults faults' result same none = subst (λ (p : Option (List ℕ)). IfErr result (λ end. Stops p old new faults faults' end)) (sym same) none
+
+pub found_none : (diary : Option Diary) (result : Result (List PlaceLine) ServeEnd) → IfOk result (λ places. AreLines [] places) → IfOk result (λ places. (asked : List Asked) × IsTable None asked places × DiaryGrows diary diary asked [])
+found_none diary (Ok places) are = ([], (refl, are), diary_same diary)
+found_none diary (Err end) are = tt
+
+pub none_none : (diary : Option Diary) (faults : ℕ) (result : Result (List PlaceLine) ServeEnd) → IfErr result (λ end. end ≡ serve_end.Ended status.Memory) → IfErr result (λ end. Stops None diary diary faults faults end)
+none_none diary faults (Ok places) is = tt
+none_none diary faults (Err end) is = (diary_same diary, is)
+
+-- ---- serving with it
+
+pub placed_listens : (options : Options) (places : List PlaceLine) (address : List ℕ) (by : Made) (crew : Crew) (old new : Option Diary) (returned returned' faults faults' : ℕ) (result : Status) → address ≡ options.address → by ≡ made_of options → crew ≡ crew_of options places
+    → Listens address by crew old new returned returned' faults faults' result → Places options places old new returned returned' faults faults' result
+placed_listens options places address by crew old new returned returned' faults faults' result at made workers listens =
+    inr (subst (λ (c : Crew). Listens options.address (made_of options) c old new returned returned' faults faults' result) workers
+    (subst (λ (m : Made). Listens options.address m crew old new returned returned' faults faults' result) made
+    (subst (λ (a : List ℕ). Listens a by crew old new returned returned' faults faults' result) at listens)))
+
+pub since : (options : Options) (places : List PlaceLine) (old new : Option Diary) (returned returned1 returned' faults faults' : ℕ) (result : Status) → returned1 ≡ returned → Places options places old new returned1 returned' faults faults' result → Places options places old new returned returned' faults faults' result
+since options places old new returned returned1 returned' faults faults' result same placed = subst (λ (n : ℕ). Places options places old new n returned' faults faults' result) same placed
+
+pub noted_end : (options : Options) (old new : Option Diary) (returned returned' faults faults' : ℕ) (line : Option ℕ) (result other : Status) (bytes text : List ℕ) (held held' : Option (List ℕ)) (before after : ℕ) → result ≡ other → bytes ≡ text → text ≡ serve_note other line
+    → IsCommand options old new returned returned' faults faults' line other → IsNoted held held' before after bytes → (at : Option ℕ) × IsCommand options old new returned returned' faults faults' at result × IsNoted held held' before after (serve_note result at)
+noted_end options old new returned returned' faults faults' line result other bytes text held held' before after same shown said is noted = (
+  line,
+  subst (λ (s : Status). IsCommand options old new returned returned' faults faults' line s) (sym same) is,
+  subst (λ (s : Status). IsNoted held held' before after (serve_note s line)) (sym same) (subst (λ (l : List ℕ). IsNoted held held' before after l) (shown ∙ said) noted),
+)
+
+pub made_as : (limits : Bounds) (a b : List ℕ) → a ≡ b → ◌≡◌ {A = Made} (record { limits = limits; origin = a }) (record { limits = limits; origin = b })
+made_as limits a b same = subst (λ (o : List ℕ). ◌≡◌ {A = Made} (record { limits = limits; origin = a }) (record { limits = limits; origin = o })) same refl
+
+crew_with : Options → List PlaceLine → AdvertParts → Crew
+crew_with options places parts = record {
+  workers = options.workers;
+  connections = options.connections;
+  places = places;
+  settings = record { protocol = parts.protocol; control = options.control; root = options.root; own = options.own; advert = options.advert };
+}
+
+pub crew_as : (options : Options) (places : List PlaceLine) (parts : AdvertParts) → parts ≡ options.advert
+    → ◌≡◌ {A = Crew} (record { workers = options.workers; connections = options.connections; places = places; settings = record { protocol = parts.protocol; control = options.control; root = options.root; own = options.own; advert = options.advert } })
+    (crew_of options places)
+unfolding crew_with
+crew_as options places parts same = ap (λ (p : AdvertParts). crew_with options places p) same

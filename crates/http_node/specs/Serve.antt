@@ -139,7 +139,7 @@ pub record IsCommand (options : Options) (old new : Option Diary) (returned retu
   pub calls : (calls : List Asked) × (back : List Tellings) × DiaryGrows old new calls back × IsPlan options line result calls back
   pub outside : result ≡ status.Outside → IsSome line ⊎ ((address_of options.address ≡ None) ⊎ Rose faults faults')
   pub address : address_of options.address ≡ None → (result ≡ status.Outside) ⊎ (result ≡ status.Memory)
-  pub line : IfSome line (λ number. result ≡ status.Outside)
+  pub bad_line : IfSome line (λ number. result ≡ status.Outside)
 
 -- ---- parts of it
 

@@ -195,20 +195,30 @@ fn serve_placed<R: Threads + Wait + Sync, O: Outside>(
         (O.returned outside.new) (O.faults outside.old) (O.faults outside.new) result }
     ensures later { O.faults outside.old ≤ O.faults outside.new }
 {
-    let address = options.address;
-    let connections = options.connections;
-    let settings = Settings {
-        protocol: options.advert.protocol,
-        control: options.control,
-        root: options.root,
-        own: options.own,
-        advert: options.advert,
-    };
-    let Ok(node) = Node::new(alloc, &options.limits, options.origin.0) else {
+    let Options {
+        address,
+        root,
+        control,
+        advert,
+        workers,
+        connections,
+        places: _,
+        own,
+        origin,
+        limits,
+    } = options;
+    let Ok(node) = Node::new(alloc, &limits, origin.0) else {
         return Status::Memory;
     };
+    let settings = Settings {
+        protocol: advert.protocol,
+        control,
+        root,
+        own,
+        advert,
+    };
     let crew = Crew {
-        workers: options.workers,
+        workers,
         connections,
         places,
         settings,

@@ -1,5 +1,5 @@
 use Rattle.std.proofs.Common.{inl, inr, sym, ap}
-use Rattle.std.specs.Prelude.{Err}
+use Rattle.std.specs.Prelude.{Err, ⊤}
 use Rattle.targets.proofs.FrontLemmas.{ok_err}
 use Rattle.http_node.proofs.ServeLemmas.{err_same, failed_rose}
 use Rattle.http_node.proofs.serve.serve_listening.Goals as goal
@@ -22,6 +22,6 @@ returns-in-Err-clause-listens g c = inl (record {
   diary = c.in-Err.ensures.diary;
   ends_so = c.fault_status.ensures;
   bad = λ bad. c.in-Err.ensures.address.0 (ap Err bad);
-  failed = failed_rose _ _ c.in-Err.fault c.in-Err.ensures.cause;
+  failed = failed_rose ⊤ _ _ c.in-Err.fault c.in-Err.ensures.cause;
   unread = λ none. err_same _ _ (c.in-Err.ensures.address.1 none);
 })

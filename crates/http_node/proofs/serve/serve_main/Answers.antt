@@ -17,7 +17,7 @@ pub returns-in-Options-clause-usage_noted : goal.returns-in-Options-clause-usage
 returns-in-Options-clause-usage_noted g c = λ none. absurd (none-some _ (sym none ∙ c.in-Options.ensures))
 
 pub returns-in-Options-clause-command : goal.returns-in-Options-clause-command
-returns-in-Options-clause-command g c = λ options is. as_read c.in-Options.options options _ c.in-Options.ensures is _ _ _ _ _ _ _ _ c.serve_noted.ensures.command
+returns-in-Options-clause-command g c = λ options is. as_read c.in-Options.options options c.args.words.now c.in-Options.ensures is _ _ _ _ _ _ _ _ c.serve_noted.ensures.command
 
 pub returns-in-NotOne-clause-command : goal.returns-in-NotOne-clause-command
 returns-in-NotOne-clause-command g c = λ options is. absurd (none-some _ (sym c.in-NotOne.ensures ∙ is))

@@ -4,4 +4,4 @@
 #[cfg(test)]
 mod tests;
 #[cfg(test)]
-mod workers;
+mod many_workers;

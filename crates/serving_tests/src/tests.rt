@@ -2,7 +2,7 @@
 
 use cdni_base::{Endpoint, Limits, Protocol, ProviderId, Target, Text, TextList};
 use doors::{Door, DoorEnd, Outside, Worker, serve_door};
-use edge_base::Clock;
+use edge_base::{Clock, WallClock};
 use location_acl::PlaceTable;
 use node_core::{Node, OneHome};
 use session::{AdvertSettings, Settings};
@@ -15,7 +15,7 @@ use std::test::Fail;
 use std::thread::{Threads, join};
 use std::time::Duration;
 use std::{io, thread, time};
-use tcp_door::{StdOutside, WAITS, Waits};
+use tcp_door::{StdOutside, TcpDoor, TcpGate, WAITS, Waits};
 use upstream_gate::Gate;
 
 const GET: &[u8] = b"GET /a HTTP/1.1\r\nHost: v.example\r\n\r\n";
@@ -49,6 +49,9 @@ enum Crowd {
     // one by IPv6
     Six,
 }
+
+// a worker over TCP
+type TcpWorker<R> = Worker<TcpDoor<R>, TcpGate<R>, WallClock<R>>;
 
 // where clients connect, and where the origin is
 #[derive(Clone, Copy)]
@@ -398,15 +401,19 @@ fn home(alloc: Global) -> Result<OneHome, Fail> {
 
 // what came of all of this at once: the clients, the origin and the worker
 fn serve_at_once<
-    R: Threads + Wait + Sync + Net<Stream = TcpStream> + time::Clock,
-    D: Door,
-    G: Gate,
-    C: Clock,
+    R: Threads
+        + Wait
+        + Sync
+        + Net<Listener = TcpListener, Stream = TcpStream>
+        + time::Clock
+        + Clone
+        + Send
+        + Drop,
 >(
     rt: &R,
     alloc: Global,
     home: &mut OneHome,
-    worker: &mut Worker<D, G, C>,
+    worker: &mut TcpWorker<R>,
     places: &PlaceTable,
     settings: &Settings,
     listener: &TcpListener,
@@ -445,14 +452,18 @@ fn serve_at_once<
 
 // serves with a worker, over a node of its own
 fn serve_worker<
-    R: Threads + Wait + Sync + Net<Stream = TcpStream> + time::Clock,
-    D: Door,
-    G: Gate,
-    C: Clock,
+    R: Threads
+        + Wait
+        + Sync
+        + Net<Listener = TcpListener, Stream = TcpStream>
+        + time::Clock
+        + Clone
+        + Send
+        + Drop,
 >(
     rt: &R,
     alloc: Global,
-    worker: &mut Worker<D, G, C>,
+    worker: &mut TcpWorker<R>,
     listener: &TcpListener,
     ends: Ends,
     crowd: Crowd,

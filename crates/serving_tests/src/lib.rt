@@ -2,6 +2,6 @@
 #![tactic(auto)]
 
 #[cfg(test)]
-mod tests;
-#[cfg(test)]
 mod many_workers;
+#[cfg(test)]
+mod tests;

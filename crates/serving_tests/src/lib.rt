@@ -2,6 +2,4 @@
 #![tactic(auto)]
 
 #[cfg(test)]
-mod many_workers;
-#[cfg(test)]
 mod tests;

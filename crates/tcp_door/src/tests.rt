@@ -619,11 +619,14 @@ fn reads_place_files(rt: HostRuntime) -> Result<(), Fail> {
     name.push("rattle_sockets_place_file")?;
     let text = name.as_path().to_str().ok_or("name")?;
     fs::write(&rt, text, "192.0.2.0/24 64496 us\n")?;
-    let read = outside.places(alloc, text.as_bytes()).ok().ok_or("read")?;
+    let read = outside
+        .places(&rt, alloc, text.as_bytes())
+        .ok()
+        .ok_or("read")?;
     assert!(rt; read.bytes() == b"192.0.2.0/24 64496 us\n".as_slice());
     assert_eq!(rt; outside.faults(), 0);
     fs::remove_file(&rt, text)?;
-    let gone = outside.places(alloc, text.as_bytes());
+    let gone = outside.places(&rt, alloc, text.as_bytes());
     assert!(rt; matches!(&gone, Err(OutsideFault::Failed)));
     assert_eq!(rt; outside.faults(), 1);
     Ok(())

@@ -2,4 +2,6 @@
 #![tactic(auto)]
 
 #[cfg(test)]
+mod many_workers;
+#[cfg(test)]
 mod tests;

@@ -2,7 +2,8 @@
 
 use cdni_base::{Endpoint, Limits, Protocol, ProviderId, Target, Text, TextList};
 use doors::{Door, DoorEnd, Outside, Worker, serve_door};
-use edge_base::{Clock, WallClock};
+use edge_base::{Clock, MemorySink, Status, WallClock};
+use http_node::serve_main;
 use location_acl::PlaceTable;
 use node_core::{Node, OneHome};
 use session::{AdvertSettings, Settings};
@@ -545,5 +546,146 @@ fn slow_clients_are_given_up(rt: HostRuntime) -> Result<(), Fail> {
 fn a_client_is_served_over_ipv6(rt: HostRuntime) -> Result<(), Fail> {
     let served = serve_crowd(&rt, rt.alloc(), WAITS, b"[::1]:0", Crowd::Six, 1)?;
     assert_eq!(rt; served, well(2, 2));
+    Ok(())
+}
+
+// ---- many workers
+
+// one client of many workers: asks over new connections until the workers have ended; how many answers were right, and how
+// many were not
+fn asking_client<N: Net<Stream = TcpStream> + time::Clock>(
+    net: &N,
+    alloc: Global,
+    addr: SocketAddr,
+    ended: &AtomicU64,
+) -> (u64, u64) {
+    let mut right = 0u64;
+    let mut wrong = 0u64;
+    for _ in 0..10_000 {
+        if ended.load(Ordering::SeqCst) > 0 {
+            return (right, wrong);
+        }
+        let Ok(stream) = dial(net, addr) else {
+            thread::sleep(net, Duration::from_millis(5));
+            continue;
+        };
+        if say(&stream, LAST).is_err() {
+            continue;
+        }
+        if gets(&stream, alloc) > 0 {
+            right = right.saturating_add(1);
+        } else if ended.load(Ordering::SeqCst) == 0 {
+            wrong = wrong.saturating_add(1);
+        }
+    }
+    (right, wrong)
+}
+
+// the words of a node with so many workers, of which each serves two connections
+fn words_of(
+    alloc: Global,
+    door: SocketAddr,
+    origin: SocketAddr,
+    workers: &str,
+) -> Result<Vec<String>, Fail> {
+    let listen = door.port();
+    let from = origin.port();
+    let mut words: Vec<String> = Vec::new(alloc);
+    words.push(String::from_str(alloc, "serve")?)?;
+    words.push(format!(in alloc; "--listen=127.0.0.1:{listen}")?)?;
+    words.push(format!(in alloc; "--metadata=http://127.0.0.1:{from}/i")?)?;
+    words.push(format!(in alloc; "--workers={workers}")?)?;
+    words.push(String::from_str(alloc, "--connections=2")?)?;
+    Ok(words)
+}
+
+// serves as the words say, and then lets the clients and the origin end
+fn serve_all<
+    R: Threads + Wait + Sync,
+    W: Net<Listener = TcpListener, Stream = TcpStream>
+        + Wait
+        + time::Clock
+        + Files
+        + Clone
+        + Send
+        + Drop,
+>(
+    rt: &R,
+    alloc: Global,
+    words: &[String],
+    outside: &mut StdOutside<W>,
+    notes: &mut MemorySink,
+    net: &W,
+    origin: SocketAddr,
+    ended: &AtomicU64,
+) -> Status {
+    let status = serve_main(rt, alloc, words, outside, notes);
+    ended.store(1, Ordering::SeqCst);
+    drop(dial(net, origin));
+    status
+}
+
+// what came of many workers: how the serving ended, and the answers of both clients that were not right
+fn serve_many<
+    R: Threads
+        + Wait
+        + Sync
+        + Net<Listener = TcpListener, Stream = TcpStream>
+        + time::Clock
+        + Files
+        + Clone
+        + Send
+        + Drop,
+>(rt: &R, alloc: Global, workers: &str, least: u64) -> Result<(Status, u64, bool), Fail> {
+    let listener = TcpListener::bind(rt, "127.0.0.1:0")?;
+    let from = listener.local_addr()?;
+    let door = TcpListener::bind(rt, "127.0.0.1:0")?.local_addr()?;
+    let document = document_of(alloc, from.port())?;
+    let document = document.as_bytes();
+    let words = words_of(alloc, door, from, workers)?;
+    let mut outside = StdOutside::new(rt.clone()?, WAITS);
+    let mut notes = MemorySink::new(alloc, &[])?;
+    let ended = AtomicU64::new(0);
+    let ((one, other), (_, status)) = join(
+        rt,
+        || {
+            join(
+                rt,
+                || asking_client(rt, alloc, door, &ended),
+                || asking_client(rt, alloc, door, &ended),
+            )
+        },
+        || {
+            join(
+                rt,
+                || origin(alloc, &listener, document).unwrap_or(0),
+                || serve_all(
+                    rt,
+                    alloc,
+                    &words,
+                    &mut outside,
+                    &mut notes,
+                    rt,
+                    from,
+                    &ended,
+                ),
+            )
+        },
+    );
+    let right = one.0.saturating_add(other.0);
+    Ok((status, one.1.saturating_add(other.1), right >= least))
+}
+
+#[test]
+fn four_workers_serve_two_clients_at_once(rt: HostRuntime) -> Result<(), Fail> {
+    let served = serve_many(&rt, rt.alloc(), "4", 8)?;
+    assert_eq!(rt; served, (Status::Done, 0, true));
+    Ok(())
+}
+
+#[test]
+fn sixty_four_workers_serve_two_clients_at_once(rt: HostRuntime) -> Result<(), Fail> {
+    let served = serve_many(&rt, rt.alloc(), "64", 128)?;
+    assert_eq!(rt; served, (Status::Done, 0, true));
     Ok(())
 }

@@ -2,14 +2,15 @@
 
 ghost use Rattle.std.specs.Prelude.{◌≡◌, ◌≤◌, None};
 ghost use Rattle.control_request.specs.Advance.{AdvanceStep, Advances, FetchesFor, RefreshesFor, step_after};
+ghost use Rattle.control_request.specs.Told.{IsToldOf};
 ghost use Rattle.session_base.specs.Doing.{Any, Does, Doing};
 ghost use Rattle.session_base.specs.Open.{OpenFetch, OpenRefresh};
 
 use cdni_base::{EndpointList, Target};
-use edge_base::Clock;
+use edge_base::{Clock, Sink};
 use history::{Call, Reply};
 use node_core::Home;
-use session_base::{ask, end_fetch, end_refresh, gather, read_clock};
+use session_base::{Manner, Settings, ask, end_fetch, end_refresh, gather, read_clock};
 use std::alloc::Global;
 use std::sync::Wait;
 use std::thread::Threads;
@@ -26,26 +27,30 @@ pub enum Step {
     Memory,
 }
 
-/// Makes the steps of a trigger, until it is final or no step more can be made: it is deleted, another pass makes its steps,
-/// a limit is reached, or no memory is found. Each fetch and each refresh that a step begins is ended.
-pub fn advance_all<R: Threads + Wait + Sync, H: Home, G: Gate, C: Clock>(
+/// Makes the steps of a new trigger, of which the sink has the answer already, until it is final or no step more can be made: it
+/// is deleted, another pass makes its steps, a limit is reached, or no memory is found. Each fetch and each refresh that a step
+/// begins is ended. Nothing is written.
+pub fn advance_all<R: Threads + Wait + Sync, H: Home, K: Sink, G: Gate, C: Clock>(
     rt: &R,
     alloc: Global,
     home: &mut H,
+    _sink: &K,
     gate: &mut G,
     clock: &mut C,
-    root: &Target,
+    settings: &Settings,
+    manner: &Manner,
     id: u64,
 ) -> Step
+    requires answered { IsToldOf settings.now manner.now id (K.held _sink.now) (K.faults _sink.now) }
     ensures who { H.who home.new ≡ H.who home.old }
     ensures stays { H.stays home.old home.new }
-    ensures does { (d : Doing) × Advances root.now id d result
+    ensures does { (d : Doing) × Advances settings.now.root id d result
         × Does (H.who home.old) Any (H.has_seen home.old) (H.has_seen home.new) (C.given clock.old) (C.given clock.new)
         (G.exchanges gate.old) (G.exchanges gate.new) None None d }
     ensures later { G.faults gate.old ≤ G.faults gate.new }
 {
     'steps: for _ in rt.forever() {
-        match advance_once(rt, alloc, home, gate, clock, root, id) {
+        match advance_once(rt, alloc, home, gate, clock, &settings.root, id) {
             Step::Goes => {}
             Step::Rests => return Step::Rests,
             Step::Memory => return Step::Memory,

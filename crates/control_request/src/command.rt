@@ -143,7 +143,7 @@ fn trigger<R: Threads + Wait + Sync, H: Home, K: Sink, G: Gate, C: Clock>(
     match home.call(rt, alloc, Call::Command { spec, moment }) {
         Ok(Reply::Created { id }) => {
             let told = tell_created(alloc, sink, settings, room, id, text, manner);
-            let last = advance_all(rt, alloc, home, gate, clock, &settings.root, id);
+            let last = advance_all(rt, alloc, home, sink, gate, clock, settings, manner, id);
             next_behind(last, next_of(manner.leaves, told.short, told.sent.fault))
         }
         Ok(Reply::Full { count }) => {

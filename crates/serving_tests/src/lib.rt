@@ -4,4 +4,6 @@
 #[cfg(test)]
 mod many_workers;
 #[cfg(test)]
+mod one_connection;
+#[cfg(test)]
 mod tests;

@@ -72,7 +72,12 @@ fn request_of(first: bool, number: u64) -> Option<&'static [u8]> {
 
 // whether the bytes have these somewhere
 fn has(bytes: &[u8], part: &[u8]) -> bool {
-    bytes.windows(part.len()).any(|window| window == part)
+    for start in 0..bytes.len() {
+        if bytes[start..].starts_with(part) {
+            return true;
+        }
+    }
+    false
 }
 
 // the ends of the connection

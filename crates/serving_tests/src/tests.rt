@@ -180,22 +180,25 @@ fn origin(alloc: Global, listener: &TcpListener, document: &[u8]) -> io::Result<
     Ok(count)
 }
 
-// the settings of a node whose metadata is at the origin
-fn settings_of(alloc: Global, origin: SocketAddr) -> Result<Settings, Fail> {
-    let port = origin.port();
-    let root = format!(in alloc; "http://127.0.0.1:{port}/i")?;
+// the settings of a node whose metadata is at this URL
+pub(crate) fn settings_at(alloc: Global, root: &[u8]) -> Result<Settings, Fail> {
     Ok(Settings {
         protocol: Protocol::Http,
         control: Endpoint::read(alloc, b"control.example")
             .ok()
             .ok_or("host")?
             .host,
-        root: Target::read(alloc, root.as_bytes(), None, false)
-            .ok()
-            .ok_or("URL")?,
+        root: Target::read(alloc, root, None, false).ok().ok_or("URL")?,
         own: ProviderId::read(alloc, b"AS64496:0").ok().ok_or("id")?,
         advert: AdvertSettings::new(Protocol::Http, TextList::new(alloc)).ok_or("footprints")?,
     })
+}
+
+// the settings of a node whose metadata is at the origin
+fn settings_of(alloc: Global, origin: SocketAddr) -> Result<Settings, Fail> {
+    let port = origin.port();
+    let root = format!(in alloc; "http://127.0.0.1:{port}/i")?;
+    settings_at(alloc, root.as_bytes())
 }
 
 // serves, and then lets the clients and the origin end
@@ -395,7 +398,7 @@ fn document_of(alloc: Global, port: u16) -> Result<String, Fail> {
 }
 
 // a home over a node of its own
-fn home(alloc: Global) -> Result<OneHome, Fail> {
+pub(crate) fn home(alloc: Global) -> Result<OneHome, Fail> {
     let origin = Text::of(alloc, b"dcdn.example")?;
     let node = Node::new(alloc, &Limits::standard(), origin)?;
     Ok(OneHome { node, number: 0 })

@@ -38,7 +38,12 @@ fn gathered<G: Gate>(alloc: Global, gate: &mut G, root: &[u8]) -> anyhow::Result
 }
 
 // how many of so many documents came
-fn exchanged<G: Gate>(alloc: Global, gate: &mut G, port: &str, count: u32) -> anyhow::Result<usize> {
+fn exchanged<G: Gate>(
+    alloc: Global,
+    gate: &mut G,
+    port: &str,
+    count: u32,
+) -> anyhow::Result<usize> {
     let mut plan = EndpointList::new(alloc);
     let origin = format!(in alloc; "127.0.0.1:{port}")?;
     match Endpoint::read(alloc, origin.as_bytes()) {

@@ -234,8 +234,11 @@ fn right_answers(bytes: &[u8], segment: &[u8]) -> u64 {
                 b"\r\nLocation: http://control.example/triggers/1\r\n",
             ),
             3 => {
-                says(&answer, b"HTTP/1.1 200 OK\r\n", b"ptype=ci-trigger-status\r\n")
-                    && position(answer.body, b"\"status\":\"complete\"").is_some()
+                says(
+                    &answer,
+                    b"HTTP/1.1 200 OK\r\n",
+                    b"ptype=ci-trigger-status\r\n",
+                ) && position(answer.body, b"\"status\":\"complete\"").is_some()
             }
             5 => says(
                 &answer,
@@ -294,9 +297,7 @@ fn connect<R: Threads + Wait + Sync>(
         country: Some((b'u', b's')),
     };
     let peer = Peer { place };
-    serve_session(
-        rt, alloc, home, &peer, source, sink, gate, clock, settings,
-    )
+    serve_session(rt, alloc, home, &peer, source, sink, gate, clock, settings)
 }
 
 // the ends of a connection over which these bytes come, with what they share
@@ -330,7 +331,14 @@ fn serve_bytes<R: Threads + Wait + Sync>(
     let mut clock = ListClock::new(alloc, &[])?;
     let mut home = home(alloc)?;
     let ending = connect(
-        rt, alloc, &mut home, &mut source, &mut sink, &mut gate, &mut clock, &settings,
+        rt,
+        alloc,
+        &mut home,
+        &mut source,
+        &mut sink,
+        &mut gate,
+        &mut clock,
+        &settings,
     );
     Ok((ending, sink, gate))
 }
@@ -339,7 +347,10 @@ fn serve_bytes<R: Threads + Wait + Sync>(
 fn a_range_is_served_taken_back_and_served_anew(rt: HostRuntime) -> Result<(), Fail> {
     let shared = make_shared(rt.alloc())?;
     let (ending, sink, gate) = serve_bytes(&rt, rt.alloc(), &shared, REQUESTS)?;
-    assert_eq!(rt; right_answers(sink.held.as_slice(), gate.segment.as_slice()), 7);
+    assert_eq!(rt;
+        right_answers(sink.held.as_slice(), gate.segment.as_slice()),
+        7
+    );
     assert_eq!(rt; ending, Ending::Closed);
     assert_eq!(rt; shared.documents.load(Ordering::SeqCst), 3);
     assert_eq!(rt; shared.segments.load(Ordering::SeqCst), 2);
@@ -351,7 +362,10 @@ fn a_new_trigger_is_answered_before_its_steps(rt: HostRuntime) -> Result<(), Fai
     let shared = make_shared(rt.alloc())?;
     let (ending, sink, _) = serve_bytes(&rt, rt.alloc(), &shared, PREPOSITION)?;
     assert_eq!(rt; ending, Ending::Closed);
-    assert_eq!(rt; position(sink.held.as_slice(), b"HTTP/1.1 201 Created\r\n").is_some(), true);
+    assert_eq!(rt;
+        position(sink.held.as_slice(), b"HTTP/1.1 201 Created\r\n").is_some(),
+        true
+    );
     assert_eq!(rt; shared.segments.load(Ordering::SeqCst), 1);
     assert_eq!(rt; shared.behind.load(Ordering::SeqCst), 1);
     Ok(())

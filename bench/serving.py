@@ -1,7 +1,7 @@
 """Measures `cdnid serve` beside nginx; `bench/serve.sh` says what and how.
 
-Usage: serving.py PROGRAM WORKERS TIMES REQUESTS. For itself it runs `serving.py --one SERVER CASE PROGRAM WORKERS REQUESTS` in a network
-namespace, once a measurement.
+Usage: serving.py PROGRAM WORKERS TIMES REQUESTS [cut]. For itself it runs `serving.py --one SERVER CASE PROGRAM WORKERS REQUESTS [cut]`
+in a network namespace, once a measurement.
 """
 import json
 import os
@@ -125,7 +125,8 @@ class Connection:
             if end >= 0:
                 break
         head = bytes(view[:end]).lower()
-        length = int(re.search(rb"\r\ncontent-length: (\d+)", head).group(1))
+        told = re.search(rb"\r\ncontent-length: (\d+)", head)
+        length = int(told.group(1)) if told else 0
         left = end + 4 + length - have
         while left > 0:
             count = self.socket.recv_into(view, min(left, len(view)))
@@ -159,6 +160,35 @@ def drive(address, case, count):
     return made
 
 
+class Cutter:
+    """A process that cuts the rows five times a second, reads each log file whole and drops it, until it is ended."""
+
+    def __init__(self):
+        self.process = subprocess.Popen([sys.executable, __file__, "--cut"])
+
+    def end(self):
+        self.process.terminate()
+        self.process.wait()
+
+
+def cut():
+    """What a cutter does."""
+    connection = Connection(CDNID)
+
+    def ask(method, path):
+        connection.send(f"{method} {path} HTTP/1.1\r\nHost: control.example\r\n\r\n".encode())
+        return connection.answer()
+
+    number = 0
+    while True:
+        status, _ = ask("POST", "/logs")
+        if status == 201:
+            number += 1
+            if ask("GET", f"/logs/{number}")[0] != 200 or ask("DELETE", f"/logs/{number}")[0] != 204:
+                raise SystemExit("a log file is not there")
+        time.sleep(0.2)
+
+
 def first_answer(address, half):
     """The milliseconds until a new client is answered beside 100 connections that hold theirs open, after half a head or none."""
     held = [Connection(address) for _ in range(100)]
@@ -173,7 +203,7 @@ def first_answer(address, half):
     return (time.perf_counter() - begin) * 1000
 
 
-def one(server, case, program, workers, count):
+def one(server, case, program, workers, count, cuts):
     """One measurement, in a namespace of its own: microseconds a request, or milliseconds of a first answer."""
     subprocess.run(["ip", "link", "set", "lo", "up", "mtu", "1500"], check=True)
     room = tempfile.mkdtemp(dir="/dev/shm")
@@ -198,7 +228,10 @@ def one(server, case, program, workers, count):
             return first_answer(address, case == "half")
         pids = processes(started[-1])
         before = processor_time(pids)
+        cutter = Cutter() if cuts and server == "cdnid" else None
         made = drive(address, case, count)
+        if cutter is not None:
+            cutter.end()
         return (processor_time(pids) - before) / made / 1000
     finally:
         for process in reversed(started):
@@ -208,8 +241,8 @@ def one(server, case, program, workers, count):
         shutil.rmtree(room)
 
 
-def measured(server, case, program, workers, count):
-    words = ["unshare", "-n", sys.executable, __file__, "--one", server, case, program, str(workers), str(count)]
+def measured(server, case, program, workers, count, cuts):
+    words = ["unshare", "-n", sys.executable, __file__, "--one", server, case, program, str(workers), str(count), *cuts]
     ended = subprocess.run(words, stdout=subprocess.PIPE, text=True)
     if ended.returncode != 0:
         raise SystemExit(f"{server}, {case}: no measurement")
@@ -217,13 +250,13 @@ def measured(server, case, program, workers, count):
 
 
 def main():
-    program, workers, times, count = sys.argv[1], int(sys.argv[2]), int(sys.argv[3]), int(sys.argv[4])
+    program, workers, times, count, cuts = sys.argv[1], int(sys.argv[2]), int(sys.argv[3]), int(sys.argv[4]), sys.argv[5:]
     late = False
     for case in [*CASES, "idle", "half"]:
         figures = {"cdnid": [], "nginx": []}
         for _ in range(times):
             for server in figures:
-                figures[server].append(measured(server, case, program, workers, count))
+                figures[server].append(measured(server, case, program, workers, count, cuts))
         ours, theirs = (statistics.median(figures[server]) for server in ("cdnid", "nginx"))
         if case in CASES:
             goal = GOALS.get(workers, {}).get(case)
@@ -237,7 +270,9 @@ def main():
     sys.exit(1 if late else 0)
 
 
-if sys.argv[1] == "--one":
-    print(one(sys.argv[2], sys.argv[3], sys.argv[4], int(sys.argv[5]), int(sys.argv[6])))
+if sys.argv[1] == "--cut":
+    cut()
+elif sys.argv[1] == "--one":
+    print(one(sys.argv[2], sys.argv[3], sys.argv[4], int(sys.argv[5]), int(sys.argv[6]), sys.argv[7:] == ["cut"]))
 else:
     main()

@@ -7,6 +7,20 @@ use Rattle.trigger_command.specs.declared.command.Act.TheVariants as act
 use Rattle.control_request.proofs.ControlLemmas.{acted, command_made, text_created, triggered, write_fault}
 use Rattle.control_request.proofs.command.trigger.Goals as goal
 
+pub advance_all-last-requires-clause-answered : goal.advance_all-last-requires-clause-answered
+advance_all-last-requires-clause-answered g c κs within =
+    let made = c.in-Ok-Created in
+    let spec = c.args.spec in
+    record {
+      spec = spec;
+      short = c.tell_created-told.result.short;
+      before = _;
+      earlier = _;
+      sent = c.tell_created-told.result.sent;
+      says = c.tell_created-told.ensures.says spec (text_created c.resource_of-text.result.0 made.id spec c.args.manner.now.moment c.resource_of-text.ensures.text);
+      cause = c.tell_created-told.ensures.cause;
+    }
+
 pub returns-in-Ok-Created-clause-does : goal.returns-in-Ok-Created-clause-does
 returns-in-Ok-Created-clause-does g c =
     let made = c.in-Ok-Created in

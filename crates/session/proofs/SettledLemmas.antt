@@ -1,29 +1,28 @@
 -- A trigger that is created in a session makes its steps in it.
-use Rattle.std.proofs.Common.{◌≡◌, ◌≢◌, ◌⊎◌, ℕ, ◌+◌, ◌==◌, Bool, true, false, ◌&&◌, ◌||◌, List, [], ◌∷◌, ◌++◌, refl, sym, ap, ◌∙◌, subst, append_assoc, None, Some, Option, inl, inr}
+use Rattle.std.proofs.Common.{◌≡◌, ◌≢◌, ◌⊎◌, ℕ, ◌+◌, ◌==◌, Bool, true, false, ◌&&◌, ◌||◌, List, [], ◌∷◌, ◌++◌, refl, sym, ap, ◌∙◌, subst, None, Some, Option, inl, inr}
 use Rattle.std.specs.List.{list_any}
-use Rattle.std.proofs.lemmas.Bool.{both_ways, cases_Bool, eq-eqb, eqb-true, and_from, or_left, or_parts, or_right}
+use Rattle.std.proofs.lemmas.Bool.{both_ways, cases_Bool, eq-eqb, and_from, or_left, or_parts, or_right}
 use Rattle.std.proofs.lemmas.List.Folds.{list_any-append}
 use Rattle.std.proofs.lemmas.Option.{none-some, same_Some}
 use Rattle.cdni_base.specs.declared.asked.Asked.{Asked}
 use Rattle.content_request.specs.Course.{Course as ContentCourse, NoRoom as NoPlace, Crowded, Full, Barred, Kept, Brought, Short, course_calls as content_calls}
 use Rattle.content_request.specs.Refresh.{Refreshing, NoBegin, NotDue, Crowded as Thronged, Gathered, Ungathered, refresh_calls}
 use Rattle.control_request.specs.Advance.{AdvanceStep, Behind, FetchesFor, RefreshesFor, Steps, advanced, step_after}
-use Rattle.control_request.specs.Control.{Acts, Commands, Controls, Course, NoRoom, Uncalled, Replied, IsActed, IsRead, IsRefused, Serves, Triggers, course_calls, event_at, next_behind}
+use Rattle.control_request.specs.Control.{Acts, Controls, Course, NoRoom, Uncalled, Replied, IsActed, IsRead, IsRefused, Serves, Triggers, course_calls, event_at, next_behind}
 use Rattle.control_request.specs.declared.advance.Step.{Step}
 use Rattle.control_request.specs.declared.advance.Step.TheVariants as step
 use Rattle.control_table.specs.declared.ask.ControlAsk.{ControlAsk}
 use Rattle.control_table.specs.declared.ask.ControlAsk.TheVariants as ask
-use Rattle.history.specs.Event.{Entry, Event, History, Admit, FetchEnd, Finish, RefreshBegin, RefreshEnd, Command, Advance, Cancel, Delete, ReadStatus, Lists, Cut, LogFile, ListLogs, DropLog}
+use Rattle.history.specs.Event.{Event, History, Admit, Command, Advance}
 use Rattle.history.specs.History.{reply_to, world_of}
 use Rattle.history.specs.World.{Made}
 use Rattle.history.specs.declared.reply.Reply.{Reply}
 use Rattle.history.specs.declared.reply.Reply.TheVariants as reply
 use Rattle.location_acl.specs.declared.footprint.Place.{Place}
-use Rattle.node_core.specs.Home.{AreOthers, Who}
+use Rattle.node_core.specs.Home.{Who}
 use Rattle.session_base.specs.Answer.{Answer}
 use Rattle.session_base.specs.Doing.{Called, Doing, Told, nothing, then}
 use Rattle.session_base.specs.Ending.{next_of}
-use Rattle.session_base.specs.Moment.{capped}
 use Rattle.session_base.specs.declared.ending.Ending.{Ending}
 use Rattle.session_base.specs.declared.ending.Ending.TheVariants as ending
 use Rattle.session_base.specs.declared.ending.Next.{Next}

@@ -1,5 +1,5 @@
 -- Each step that a session makes finds the step before ended.
-use Rattle.std.proofs.Common.{◌≡◌, ◌⊎◌, ℕ, ◌+◌, ◌==◌, Bool, true, false, not, ◌&&◌, ◌||◌, IsTrue, List, [], ◌∷◌, ◌++◌, length, length-append, arith, refl, sym, ap, ◌∙◌, subst, append-nil, None, Some, Option, inl, inr}
+use Rattle.std.proofs.Common.{◌≡◌, ◌⊎◌, ℕ, ◌+◌, ◌==◌, Bool, true, false, not, ◌&&◌, List, [], ◌∷◌, ◌++◌, length, length-append, arith, refl, sym, ap, ◌∙◌, subst, append-nil, None, Some, Option, inl, inr}
 use Rattle.std.specs.List.{list_all, list_any}
 use Rattle.std.proofs.lemmas.Bool.{and_from, and_parts, both_ways, eq-eqb, eqb-true, false_from_ne_true, not-true, or_from}
 use Rattle.std.proofs.lemmas.List.Folds.{list_all-append}
@@ -189,17 +189,17 @@ module _ (given : Reply → Option ℕ) (ends : ℕ → ℕ → Entry → Bool) 
   before_others : (h others : History) (number : ℕ) → AreOthers who.number others → StepBegun (h ++ others) number → StepBegun h number
   before_others h others number are (b, moment, is) = elim (cut h others b.before (who.number, b.event) b.since b.whole) [
     | inl within ↦ (
-        record {
-          before = b.before;
-          event = b.event;
-          since = within.0;
-          whole = within.1;
-          begun = b.begun;
-          kept = (and_parts _ _ (sym (list_all-append (λ x. not (ends number who.number x)) within.0 others) ∙ ap (list_all (λ x. not (ends number who.number x))) (sym within.2) ∙ b.kept)).0;
-        },
-        moment,
-        is,
-      )
+      record {
+        before = b.before;
+        event = b.event;
+        since = within.0;
+        whole = within.1;
+        begun = b.begun;
+        kept = (and_parts _ _ (sym (list_all-append (λ x. not (ends number who.number x)) within.0 others) ∙ ap (list_all (λ x. not (ends number who.number x))) (sym within.2) ∙ b.kept)).0;
+      },
+      moment,
+      is,
+    )
     | inr behind ↦ absurd (not_among who.number behind.0 (who.number, b.event) b.since (subst (AreOthers who.number) behind.1 are) refl)
   ]
 
@@ -358,7 +358,7 @@ pub no_step_open : OpenLaw → NumberLaw → (who : Who) (h : History) (calls : 
 no_step_open law numbers who h [] last told ends = tt
 no_step_open law numbers who h (call ∷ calls) last (others, are, answered, told) ends = (
   λ id new. none_open law who id ((h ++ others) ++ (who.number, call.0) ∷ []) calls last told ends.1
-  (due_first begun_fetch ends_fetch who id numbers refl (h ++ others) call.0 call.1 calls answered new (new_created call.0 call.1 id new))
-  (due_first begun_refresh ends_refresh who id numbers refl (h ++ others) call.0 call.1 calls answered new (new_created call.0 call.1 id new)),
+      (due_first begun_fetch ends_fetch who id numbers refl (h ++ others) call.0 call.1 calls answered new (new_created call.0 call.1 id new))
+      (due_first begun_refresh ends_refresh who id numbers refl (h ++ others) call.0 call.1 calls answered new (new_created call.0 call.1 id new)),
   no_step_open law numbers who ((h ++ others) ++ (who.number, call.0) ∷ []) calls last told ends.1,
 )

@@ -4,5 +4,6 @@ pub mod FullLemmas
 pub mod RecordedLemmas
 pub mod SessionLemmas
 pub mod SettledLemmas
+pub mod StepLemmas
 pub mod TellingLemmas
 pub mod TurnLemmas

@@ -1,29 +1,28 @@
 -- A trigger that is created in a session makes its steps in it.
-use Rattle.std.proofs.Common.{◌≡◌, ◌≢◌, ◌⊎◌, ℕ, ◌+◌, ◌==◌, Bool, true, false, ◌&&◌, ◌||◌, List, [], ◌∷◌, ◌++◌, refl, sym, ap, ◌∙◌, subst, append_assoc, None, Some, Option, inl, inr}
+use Rattle.std.proofs.Common.{◌≡◌, ◌≢◌, ◌⊎◌, ℕ, ◌+◌, ◌==◌, Bool, true, false, ◌&&◌, ◌||◌, List, [], ◌∷◌, ◌++◌, refl, sym, ap, ◌∙◌, subst, None, Some, Option, inl, inr}
 use Rattle.std.specs.List.{list_any}
-use Rattle.std.proofs.lemmas.Bool.{both_ways, cases_Bool, eq-eqb, eqb-true, and_from, and_parts, or_left, or_right}
+use Rattle.std.proofs.lemmas.Bool.{both_ways, cases_Bool, eq-eqb, and_from, or_left, or_parts, or_right}
 use Rattle.std.proofs.lemmas.List.Folds.{list_any-append}
 use Rattle.std.proofs.lemmas.Option.{none-some, same_Some}
 use Rattle.cdni_base.specs.declared.asked.Asked.{Asked}
 use Rattle.content_request.specs.Course.{Course as ContentCourse, NoRoom as NoPlace, Crowded, Full, Barred, Kept, Brought, Short, course_calls as content_calls}
 use Rattle.content_request.specs.Refresh.{Refreshing, NoBegin, NotDue, Crowded as Thronged, Gathered, Ungathered, refresh_calls}
 use Rattle.control_request.specs.Advance.{AdvanceStep, Behind, FetchesFor, RefreshesFor, Steps, advanced, step_after}
-use Rattle.control_request.specs.Control.{Acts, Commands, Controls, Course, NoRoom, Uncalled, Replied, IsActed, IsRead, IsRefused, Serves, Triggers, course_calls, event_at, next_behind}
+use Rattle.control_request.specs.Control.{Acts, Controls, Course, NoRoom, Uncalled, Replied, IsActed, IsRead, IsRefused, Serves, Triggers, course_calls, event_at, next_behind}
 use Rattle.control_request.specs.declared.advance.Step.{Step}
 use Rattle.control_request.specs.declared.advance.Step.TheVariants as step
 use Rattle.control_table.specs.declared.ask.ControlAsk.{ControlAsk}
 use Rattle.control_table.specs.declared.ask.ControlAsk.TheVariants as ask
-use Rattle.history.specs.Event.{Entry, Event, History, Admit, FetchEnd, Finish, RefreshBegin, RefreshEnd, Command, Advance, Cancel, Delete, ReadStatus, Lists, Cut, LogFile, ListLogs, DropLog}
+use Rattle.history.specs.Event.{Event, History, Admit, Command, Advance}
 use Rattle.history.specs.History.{reply_to, world_of}
 use Rattle.history.specs.World.{Made}
 use Rattle.history.specs.declared.reply.Reply.{Reply}
 use Rattle.history.specs.declared.reply.Reply.TheVariants as reply
 use Rattle.location_acl.specs.declared.footprint.Place.{Place}
-use Rattle.node_core.specs.Home.{AreOthers, Who}
+use Rattle.node_core.specs.Home.{Who}
 use Rattle.session_base.specs.Answer.{Answer}
 use Rattle.session_base.specs.Doing.{Called, Doing, Told, nothing, then}
 use Rattle.session_base.specs.Ending.{next_of}
-use Rattle.session_base.specs.Moment.{capped}
 use Rattle.session_base.specs.declared.ending.Ending.{Ending}
 use Rattle.session_base.specs.declared.ending.Ending.TheVariants as ending
 use Rattle.session_base.specs.declared.ending.Next.{Next}
@@ -39,7 +38,8 @@ use Rattle.upstream_gate.specs.declared.outcome.Outcome.{Outcome}
 use Rattle.upstream_gate.specs.declared.outcome.Outcome.TheVariants as outcome
 use Rattle.session.proofs.RecordedLemmas.{told_longer}
 use Rattle.session.specs.Session.{Runs}
-use Rattle.session.specs.Settled.{AllRest, AllSettle, RestsIn, Settles, is_refusal, is_rest, new_trigger, steps_so}
+use Rattle.session.proofs.StepLemmas.{is_step}
+use Rattle.session.specs.Settled.{AllRest, AllSettle, NoStepStaysOpen, RestsIn, Settles, is_refusal, is_rest, is_step_open, new_trigger, steps_so}
 use Rattle.session.specs.Turn.{Turn}
 
 -- ---- calls that create no trigger
@@ -303,38 +303,39 @@ abbrev FinalLaw : Type 0
 FinalLaw = (made : Made) (before since : History) (pass id moment : ℕ) (status : JobStatus) → reply_to made before (pass, Advance id moment) ≡ reply.Final status
     → IsFinalIn (world_of made ((before ++ (pass, Advance id moment) ∷ []) ++ since)) id ⊎ (list_any (deletes id) since ≡ true)
 
-final_or_refused : (answer : Reply) → is_rest answer ≡ true → ((status : JobStatus) × (answer ≡ reply.Final status)) ⊎ (is_refusal answer ≡ true)
-final_or_refused (reply.Final status) is = inl (status, refl)
-final_or_refused (reply.Unknown number) is = inr refl
-final_or_refused (reply.Full count) is = inr refl
-final_or_refused (reply.Claimed pass) is = inr refl
-final_or_refused (reply.StepOpen number) is = inr refl
-final_or_refused reply.Started is = absurd (both_ways false refl is)
-final_or_refused (reply.Skipped index) is = absurd (both_ways false refl is)
-final_or_refused (reply.Fetch fetch plan target) is = absurd (both_ways false refl is)
-final_or_refused (reply.Refresh refresh) is = absurd (both_ways false refl is)
-final_or_refused (reply.Denied delivery rule) is = absurd (both_ways false refl is)
-final_or_refused (reply.Hit delivery fetch kind body) is = absurd (both_ways false refl is)
-final_or_refused (reply.Miss delivery fetch plan) is = absurd (both_ways false refl is)
-final_or_refused (reply.Ended kept) is = absurd (both_ways false refl is)
-final_or_refused (reply.NotOpen number) is = absurd (both_ways false refl is)
-final_or_refused (reply.Logged row) is = absurd (both_ways false refl is)
-final_or_refused (reply.Due refresh) is = absurd (both_ways false refl is)
-final_or_refused (reply.NotDue later) is = absurd (both_ways false refl is)
-final_or_refused (reply.Installed generation) is = absurd (both_ways false refl is)
-final_or_refused (reply.Stale trigger) is = absurd (both_ways false refl is)
-final_or_refused (reply.Older refresh) is = absurd (both_ways false refl is)
-final_or_refused reply.Failed is = absurd (both_ways false refl is)
-final_or_refused (reply.Created number) is = absurd (both_ways false refl is)
-final_or_refused (reply.Statuses list) is = absurd (both_ways false refl is)
-final_or_refused reply.Deleted is = absurd (both_ways false refl is)
-final_or_refused (reply.Resource job) is = absurd (both_ways false refl is)
-final_or_refused (reply.Collection filter ids) is = absurd (both_ways false refl is)
-final_or_refused (reply.File number) is = absurd (both_ways false refl is)
-final_or_refused reply.NothingToCut is = absurd (both_ways false refl is)
-final_or_refused (reply.LogText text) is = absurd (both_ways false refl is)
-final_or_refused (reply.Numbers list) is = absurd (both_ways false refl is)
-final_or_refused reply.Dropped is = absurd (both_ways false refl is)
+-- the trigger is final, the step is refused, or the step before is open
+why_rests : (answer : Reply) → is_rest answer ≡ true → ((status : JobStatus) × (answer ≡ reply.Final status)) ⊎ ((is_refusal answer ≡ true) ⊎ (is_step_open answer ≡ true))
+why_rests (reply.Final status) is = inl (status, refl)
+why_rests (reply.Unknown number) is = inr (inl refl)
+why_rests (reply.Full count) is = inr (inl refl)
+why_rests (reply.Claimed pass) is = inr (inl refl)
+why_rests (reply.StepOpen number) is = inr (inr refl)
+why_rests reply.Started is = absurd (both_ways false refl is)
+why_rests (reply.Skipped index) is = absurd (both_ways false refl is)
+why_rests (reply.Fetch fetch plan target) is = absurd (both_ways false refl is)
+why_rests (reply.Refresh refresh) is = absurd (both_ways false refl is)
+why_rests (reply.Denied delivery rule) is = absurd (both_ways false refl is)
+why_rests (reply.Hit delivery fetch kind body) is = absurd (both_ways false refl is)
+why_rests (reply.Miss delivery fetch plan) is = absurd (both_ways false refl is)
+why_rests (reply.Ended kept) is = absurd (both_ways false refl is)
+why_rests (reply.NotOpen number) is = absurd (both_ways false refl is)
+why_rests (reply.Logged row) is = absurd (both_ways false refl is)
+why_rests (reply.Due refresh) is = absurd (both_ways false refl is)
+why_rests (reply.NotDue later) is = absurd (both_ways false refl is)
+why_rests (reply.Installed generation) is = absurd (both_ways false refl is)
+why_rests (reply.Stale trigger) is = absurd (both_ways false refl is)
+why_rests (reply.Older refresh) is = absurd (both_ways false refl is)
+why_rests reply.Failed is = absurd (both_ways false refl is)
+why_rests (reply.Created number) is = absurd (both_ways false refl is)
+why_rests (reply.Statuses list) is = absurd (both_ways false refl is)
+why_rests reply.Deleted is = absurd (both_ways false refl is)
+why_rests (reply.Resource job) is = absurd (both_ways false refl is)
+why_rests (reply.Collection filter ids) is = absurd (both_ways false refl is)
+why_rests (reply.File number) is = absurd (both_ways false refl is)
+why_rests reply.NothingToCut is = absurd (both_ways false refl is)
+why_rests (reply.LogText text) is = absurd (both_ways false refl is)
+why_rests (reply.Numbers list) is = absurd (both_ways false refl is)
+why_rests reply.Dropped is = absurd (both_ways false refl is)
 
 final_settles : FinalLaw → (made : Made) (before since last : History) (pass id moment : ℕ) (status : JobStatus) (calls : List Called) → last ≡ (before ++ (pass, Advance id moment) ∷ []) ++ since → reply_to made before (pass, Advance id moment) ≡ reply.Final status → Settles made last id calls
 final_settles law made before since last pass id moment status calls longer is = elim (law made before since pass id moment status is) [
@@ -342,50 +343,44 @@ final_settles law made before since last pass id moment status calls longer is =
   | inr gone ↦ inr (inl (ap (list_any (deletes id)) longer ∙ list_any-append (deletes id) (before ++ (pass, Advance id moment) ∷ []) since ∙ or_right _ _ gone))
 ]
 
+this_step : (id : ℕ) (so : Bool) → so ≡ true → (id == id && so) ≡ true
+this_step id so is = and_from (id == id) so (eq-eqb id id refl) is
+
 step_settles : FinalLaw → (who : Who) (before last : History) (id moment : ℕ) (answer : Reply) (calls : List Called) → answer ≡ reply_to who.made before (who.number, Advance id moment) → Told who (before ++ (who.number, Advance id moment) ∷ []) calls last
-    → is_rest answer ≡ true → Settles who.made last id ((Advance id moment, answer) ∷ calls)
-step_settles law who before last id moment answer calls answered told rests = elim (final_or_refused answer rests) [
+    → steps_so is_step_open id (Advance id moment, answer) ≡ false → is_rest answer ≡ true → Settles who.made last id ((Advance id moment, answer) ∷ calls)
+step_settles law who before last id moment answer calls answered told closed rests = elim (why_rests answer rests) [
   | inl final ↦ let since = told_longer who (before ++ (who.number, Advance id moment) ∷ []) calls last told in
       final_settles law who.made before since.0 last who.number id moment final.0 ((Advance id moment, answer) ∷ calls) since.1 (sym answered ∙ final.1)
-  | inr refused ↦ inr (inr (or_left (id == id && is_refusal answer) (list_any (steps_so is_refusal id) calls) (and_from (id == id) (is_refusal answer) (eq-eqb id id refl) refused)))
+  | inr other ↦ elim other [
+    | inl refused ↦ inr (inr (or_left (id == id && is_refusal answer) (list_any (steps_so is_refusal id) calls) (this_step id (is_refusal answer) refused)))
+    | inr open_still ↦ absurd (both_ways (id == id && is_step_open answer) closed (this_step id (is_step_open answer) open_still))
+  ]
 ]
 
-advance_settles : FinalLaw → (who : Who) (before last : History) (id other moment : ℕ) (answer : Reply) (calls : List Called) → answer ≡ reply_to who.made before (who.number, Advance other moment) → Told who (before ++ (who.number, Advance other moment) ∷ []) calls last
-    → (other == id && is_rest answer) ≡ true → Settles who.made last id ((Advance other moment, answer) ∷ calls)
-advance_settles law who before last id other moment answer calls answered told is = let both = and_parts (other == id) (is_rest answer) is in
-    subst (λ (n : ℕ). Settles who.made last n ((Advance other moment, answer) ∷ calls)) (eqb-true other id both.0) (step_settles law who before last other moment answer calls answered told both.1)
-
 call_settles : FinalLaw → (who : Who) (before last : History) (id : ℕ) (event : Event) (answer : Reply) (calls : List Called) → answer ≡ reply_to who.made before (who.number, event) → Told who (before ++ (who.number, event) ∷ []) calls last
-    → steps_so is_rest id (event, answer) ≡ true → Settles who.made last id ((event, answer) ∷ calls)
-call_settles law who before last id (Advance other moment) answer calls answered told is = advance_settles law who before last id other moment answer calls answered told is
-call_settles law who before last id (Admit asked place moment) answer calls answered told is = absurd (both_ways false refl is)
-call_settles law who before last id (FetchEnd fetch outcome moment) answer calls answered told is = absurd (both_ways false refl is)
-call_settles law who before last id (Finish delivery status total entity moment) answer calls answered told is = absurd (both_ways false refl is)
-call_settles law who before last id (RefreshBegin moment) answer calls answered told is = absurd (both_ways false refl is)
-call_settles law who before last id (RefreshEnd refresh tree moment) answer calls answered told is = absurd (both_ways false refl is)
-call_settles law who before last id (Command spec moment) answer calls answered told is = absurd (both_ways false refl is)
-call_settles law who before last id (Cancel ids moment) answer calls answered told is = absurd (both_ways false refl is)
-call_settles law who before last id (Delete other) answer calls answered told is = absurd (both_ways false refl is)
-call_settles law who before last id (ReadStatus other) answer calls answered told is = absurd (both_ways false refl is)
-call_settles law who before last id (Lists filter) answer calls answered told is = absurd (both_ways false refl is)
-call_settles law who before last id (Cut moment) answer calls answered told is = absurd (both_ways false refl is)
-call_settles law who before last id (LogFile number) answer calls answered told is = absurd (both_ways false refl is)
-call_settles law who before last id ListLogs answer calls answered told is = absurd (both_ways false refl is)
-call_settles law who before last id (DropLog number) answer calls answered told is = absurd (both_ways false refl is)
+    → steps_so is_step_open id (event, answer) ≡ false → steps_so is_rest id (event, answer) ≡ true → Settles who.made last id ((event, answer) ∷ calls)
+call_settles law who before last id event answer calls answered told closed is =
+    let step = is_step is_rest id event answer is in
+    subst (λ (x : Event). answer ≡ reply_to who.made before (who.number, x) → Told who (before ++ (who.number, x) ∷ []) calls last → steps_so is_step_open id (x, answer) ≡ false → Settles who.made last id ((x, answer) ∷ calls))
+    (sym step.1) (λ a t c. step_settles law who before last id step.0 answer calls a t c step.2) answered told closed
 
 settles_later : (made : Made) (last : History) (id : ℕ) (call : Called) (calls : List Called) → Settles made last id calls → Settles made last id (call ∷ calls)
 settles_later made last id call calls (inl final) = inl final
 settles_later made last id call calls (inr (inl gone)) = inr (inl gone)
 settles_later made last id call calls (inr (inr refused)) = inr (inr (or_right (steps_so is_refusal id call) (list_any (steps_so is_refusal id) calls) refused))
 
-settles_by : FinalLaw → (who : Who) (h : History) (calls : List Called) (last : History) (id : ℕ) → Told who h calls last → RestsIn id calls → Settles who.made last id calls
-settles_by law who h [] last id told is = absurd (both_ways false refl is)
-settles_by law who h ((event, answer) ∷ calls) last id (others, are, answered, told) is = elim (cases_Bool (steps_so is_rest id (event, answer))) [
-  | inl here ↦ call_settles law who (h ++ others) last id event answer calls answered told here
-  | inr other ↦ settles_later who.made last id (event, answer) calls (settles_by law who ((h ++ others) ++ (who.number, event) ∷ []) calls last id told (subst (λ (b : Bool). (b || list_any (steps_so is_rest id) calls) ≡ true) other is))
-]
+settles_by : FinalLaw → (who : Who) (h : History) (calls : List Called) (last : History) (id : ℕ) → Told who h calls last → list_any (steps_so is_step_open id) calls ≡ false → RestsIn id calls → Settles who.made last id calls
+settles_by law who h [] last id told closed is = absurd (both_ways false refl is)
+settles_by law who h ((event, answer) ∷ calls) last id (others, are, answered, told) closed is =
+    let apart = or_parts (steps_so is_step_open id (event, answer)) (list_any (steps_so is_step_open id) calls) closed in
+    elim (cases_Bool (steps_so is_rest id (event, answer))) [
+      | inl here ↦ call_settles law who (h ++ others) last id event answer calls answered told apart.0 here
+      | inr other ↦ settles_later who.made last id (event, answer) calls (settles_by law who ((h ++ others) ++ (who.number, event) ∷ []) calls last id told apart.1 (subst (λ (b : Bool). (b || list_any (steps_so is_rest id) calls) ≡ true) other is))
+    ]
 
-pub all_settle : FinalLaw → (who : Who) (h : History) (calls : List Called) (last : History) → Told who h calls last → AllRest calls → AllSettle who.made last calls
-all_settle law who h [] last told rests = tt
-all_settle law who h (call ∷ calls) last (others, are, answered, told) rests =
-    (λ id is. settles_by law who ((h ++ others) ++ (who.number, call.0) ∷ []) calls last id told (rests.0 id is), all_settle law who ((h ++ others) ++ (who.number, call.0) ∷ []) calls last told rests.1)
+pub all_settle : FinalLaw → (who : Who) (h : History) (calls : List Called) (last : History) → Told who h calls last → NoStepStaysOpen calls → AllRest calls → AllSettle who.made last calls
+all_settle law who h [] last told none rests = tt
+all_settle law who h (call ∷ calls) last (others, are, answered, told) none rests = (
+  λ id is. settles_by law who ((h ++ others) ++ (who.number, call.0) ∷ []) calls last id told (none.0 id is) (rests.0 id is),
+  all_settle law who ((h ++ others) ++ (who.number, call.0) ∷ []) calls last told none.1 rests.1,
+)

@@ -16,17 +16,22 @@ abbrev pub new_trigger : Called → Option ℕ
 new_trigger (Command spec moment, answer) = created_trigger answer
 new_trigger call = None
 
--- a step is refused: the trigger is deleted, another pass makes its steps, a limit is reached, or the step before is open
+-- a step is refused: the trigger is deleted, another pass makes its steps, or a limit is reached
 abbrev pub is_refusal : Reply → Bool
 is_refusal (reply.Unknown id) = true
 is_refusal (reply.Claimed pass) = true
 is_refusal (reply.Full count) = true
-is_refusal (reply.StepOpen number) = true
 is_refusal answer = false
 
--- there is no further step: the trigger has its last status, or the step is refused
+-- the step before is open
+abbrev pub is_step_open : Reply → Bool
+is_step_open (reply.StepOpen number) = true
+is_step_open answer = false
+
+-- there is no further step: the trigger has its last status, the step is refused, or the step before is open
 abbrev pub is_rest : Reply → Bool
 is_rest (reply.Final status) = true
+is_rest (reply.StepOpen number) = true
 is_rest answer = is_refusal answer
 
 -- a step of this trigger is answered so
@@ -42,6 +47,12 @@ RestsIn id calls = list_any (steps_so is_rest id) calls ≡ true
 abbrev pub AllRest : List Called → Type 0
 AllRest [] = Unit {0}
 AllRest (call ∷ calls) = ((id : ℕ) → new_trigger call ≡ Some id → RestsIn id calls) × AllRest calls
+
+-- no step of a trigger that is created among them, behind its creation, is answered that the step before is open
+abbrev pub NoStepStaysOpen : List Called → Type 0
+NoStepStaysOpen [] = Unit {0}
+NoStepStaysOpen (call ∷ calls) = ((id : ℕ) → new_trigger call ≡ Some id → list_any (steps_so is_step_open id) calls ≡ false)
+    × NoStepStaysOpen calls
 
 -- In the history to which these calls lead it has its last status, or it was deleted; or one of its steps was refused.
 abbrev pub Settles : Made → History → ℕ → List Called → Type 0

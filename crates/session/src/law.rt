@@ -15,7 +15,7 @@ ghost use Rattle.session_base.specs.Doing.{Doing, Told};
 ghost use Rattle.session.specs.Ended.{AllEnded};
 ghost use Rattle.session.specs.Recorded.{AllRecorded};
 ghost use Rattle.session.specs.Session.{Session};
-ghost use Rattle.session.specs.Settled.{AllRest, AllSettle, RestsIn};
+ghost use Rattle.session.specs.Settled.{AllRest, AllSettle, NoStepStaysOpen, RestsIn};
 ghost use Rattle.trigger_command.specs.Spec.{SpecParts};
 ghost use Rattle.content_request.specs.Telling.{AllTellOf, BroughtNothing};
 ghost use Rattle.session_base.specs.declared.ending.Ending.{Ending};
@@ -28,6 +28,7 @@ ghost use Rattle.session_base.specs.declared.settings.Settings.{Settings};
 use delivery_law::log_rows::each_row_belongs_to_one_finish_and_one_admit;
 use history::laws::what_is_open_has_begun_and_not_ended;
 use trigger_law::final_triggers::a_final_trigger_stays_final;
+use trigger_law::open_steps::{a_new_trigger_has_a_new_number, a_step_that_was_ended_is_not_open};
 
 /// Each delivery that is admitted in a session is finished in it, and each fetch and refresh that is begun is ended.
 pub fn what_is_opened_is_ended()
@@ -89,18 +90,22 @@ pub fn a_thousand_answers_end_a_session()
 {}
 
 /// Each trigger that is created in a session makes its steps there until it has its last status or a step is refused: where it is
-/// deleted, another pass makes its steps, a limit is reached, or the step before is open. In the history to which the session
-/// leads it then has its last status, or it was deleted, or a step was refused. Only a session that ends for want of memory may
-/// have found none for a step of its last request's trigger.
+/// deleted, another pass makes its steps, or a limit is reached. In the history to which the session leads it then has its last
+/// status, or it was deleted, or a step was refused; and no step finds the step before open, since each was ended. Only a session
+/// that ends for want of memory may have found none for a step of its last request's trigger.
 pub fn each_new_trigger_becomes_final()
     ensures steps { (settings : Settings) (spec : SpecParts) (manner : Manner) (d : Doing) (after : Next)
         → (trigger : Triggers settings spec manner d after)
         → trigger.last ≢ step.Memory → RestsIn trigger.id trigger.steps.calls }
     ensures rests { (settings : Settings) (place : Place) (d : Doing) (end : Ending)
         → Session settings place d end → end ≢ ending.Memory → AllRest d.calls }
+    ensures ended { (who : Who) (settings : Settings) (place : Place) (d : Doing) (end : Ending) (h last : History)
+        → Session settings place d end → Told who h d.calls last → NoStepStaysOpen d.calls }
     ensures settles { (who : Who) (settings : Settings) (place : Place) (d : Doing) (end : Ending) (h last : History)
         → Session settings place d end → Told who h d.calls last → end ≢ ending.Memory
         → AllSettle who.made last d.calls }
 {
     a_final_trigger_stays_final();
+    a_step_that_was_ended_is_not_open();
+    a_new_trigger_has_a_new_number();
 }

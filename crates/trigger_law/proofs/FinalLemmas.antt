@@ -26,7 +26,7 @@ use Rattle.trigger_law.specs.FinalTriggers.{IsFinalAmong, IsFinalIn, deletes, is
 
 -- ---- finding a trigger
 
-first_found : (x : Trigger) (rest : Option Trigger) (t : Trigger) (b : Bool) → b ≡ true → cond b (Some x) rest ≡ Some t → x ≡ t
+pub first_found : (x : Trigger) (rest : Option Trigger) (t : Trigger) (b : Bool) → b ≡ true → cond b (Some x) rest ≡ Some t → x ≡ t
 first_found x rest t true is found = same_Some x t found
 first_found x rest t false is found = absurd (both_ways false refl is)
 
@@ -43,7 +43,7 @@ finds_later x rest t true is found = absurd (both_ways true is refl)
 finds_later x rest t false is found = found
 
 -- what is found has the number
-found_is : (id : ℕ) (triggers : List Trigger) (t : Trigger) → trigger_of id triggers ≡ Some t → is_trigger id t ≡ true
+pub found_is : (id : ℕ) (triggers : List Trigger) (t : Trigger) → trigger_of id triggers ≡ Some t → is_trigger id t ≡ true
 found_is id [] t found = absurd (none-some t found)
 found_is id (x ∷ xs) t found = elim (cases_Bool (is_trigger id x)) [
   | inl holds ↦ subst (λ (y : Trigger). is_trigger id y ≡ true) (first_found x (trigger_of id xs) t (is_trigger id x) holds found) holds
@@ -51,7 +51,7 @@ found_is id (x ∷ xs) t found = elim (cases_Bool (is_trigger id x)) [
 ]
 
 -- where each trigger is changed and keeps its number, the changed one is found
-mapped : (id : ℕ) (f : Trigger → Trigger) → ((t : Trigger) → is_trigger id (f t) ≡ is_trigger id t) → (triggers : List Trigger) (t : Trigger) → trigger_of id triggers ≡ Some t → trigger_of id (map f triggers) ≡ Some (f t)
+pub mapped : (id : ℕ) (f : Trigger → Trigger) → ((t : Trigger) → is_trigger id (f t) ≡ is_trigger id t) → (triggers : List Trigger) (t : Trigger) → trigger_of id triggers ≡ Some t → trigger_of id (map f triggers) ≡ Some (f t)
 mapped id f same [] t found = absurd (none-some t found)
 mapped id f same (x ∷ xs) t found = elim (cases_Bool (is_trigger id x)) [
   | inl holds ↦ finds_first (f x) (trigger_of id (map f xs)) (is_trigger id (f x)) (same x ∙ holds) ∙ ap (λ (y : Trigger). Some (f y)) (first_found x (trigger_of id xs) t (is_trigger id x) holds found)
@@ -71,14 +71,14 @@ with_more id (x ∷ xs) more t found = elim (cases_Bool (is_trigger id x)) [
 ]
 
 -- a trigger has one number
-other_number : (id other : ℕ) (t : Trigger) → (other == id) ≡ false → is_trigger id t ≡ true → is_trigger other t ≡ false
+pub other_number : (id other : ℕ) (t : Trigger) → (other == id) ≡ false → is_trigger id t ≡ true → is_trigger other t ≡ false
 other_number id other t differs is = elim (cases_Bool (is_trigger other t)) [
   | inl holds ↦ absurd (both_ways (other == id) differs (eq-eqb other id (sym (eqb-true t.job.id other holds) ∙ eqb-true t.job.id id is)))
   | inr fails ↦ fails
 ]
 
 -- another one is taken away
-abbrev left_without : ℕ → List Trigger → List Trigger
+abbrev pub left_without : ℕ → List Trigger → List Trigger
 left_without other triggers = filter (λ trigger. not (is_trigger other trigger)) triggers
 
 without_one : (id other : ℕ) (x : Trigger) (xs : List Trigger) (t : Trigger) → is_trigger id x ≡ false → trigger_of id (left_without other xs) ≡ Some t → (b : Bool)
@@ -97,7 +97,7 @@ without id other differs (x ∷ xs) t found = elim (cases_Bool (is_trigger id x)
 -- ---- what changes a trigger
 
 -- a change that keeps the number and the last status, made or not
-chosen_number : (id : ℕ) (t u : Trigger) (b : Bool) → u.job.id ≡ t.job.id → is_trigger id (cond b u t) ≡ is_trigger id t
+pub chosen_number : (id : ℕ) (t u : Trigger) (b : Bool) → u.job.id ≡ t.job.id → is_trigger id (cond b u t) ≡ is_trigger id t
 chosen_number id t u true same = ap (λ (n : ℕ). n == id) same
 chosen_number id t u false same = refl
 
@@ -105,7 +105,7 @@ chosen_final : (t u : Trigger) (b : Bool) → is_final t.job.status ≡ true →
 chosen_final t u true last next = next
 chosen_final t u false last next = last
 
-fetched_number : (good : Bool) (t : Trigger) → (fetched good t).job.id ≡ t.job.id
+pub fetched_number : (good : Bool) (t : Trigger) → (fetched good t).job.id ≡ t.job.id
 fetched_number true t = refl
 fetched_number false t = refl
 
@@ -113,7 +113,7 @@ fetched_final : (good : Bool) (t : Trigger) → is_final t.job.status ≡ true �
 fetched_final true t last = last
 fetched_final false t last = last
 
-refreshed_number : (good : Bool) (t : Trigger) → (refreshed good t).job.id ≡ t.job.id
+pub refreshed_number : (good : Bool) (t : Trigger) → (refreshed good t).job.id ≡ t.job.id
 refreshed_number true t = refl
 refreshed_number false t = refl
 
@@ -121,7 +121,7 @@ refreshed_final : (good : Bool) (t : Trigger) → is_final t.job.status ≡ true
 refreshed_final true t last = last
 refreshed_final false t last = last
 
-ended_number : (moment : ℕ) (status before : JobStatus) (t : Trigger) → (ended_as moment status before t).job.id ≡ t.job.id
+pub ended_number : (moment : ℕ) (status before : JobStatus) (t : Trigger) → (ended_as moment status before t).job.id ≡ t.job.id
 ended_number moment status Pending t = refl
 ended_number moment status Active t = refl
 ended_number moment status Complete t = refl
@@ -137,7 +137,7 @@ ended_final moment status Failed t is last = last
 ended_final moment status Cancelling t is last = absurd (both_ways false refl is)
 ended_final moment status Cancelled t is last = last
 
-cancelled_number : (moment : ℕ) (before : JobStatus) (t : Trigger) → (cancelled_from moment before t).job.id ≡ t.job.id
+pub cancelled_number : (moment : ℕ) (before : JobStatus) (t : Trigger) → (cancelled_from moment before t).job.id ≡ t.job.id
 cancelled_number moment Pending t = refl
 cancelled_number moment Active t = refl
 cancelled_number moment Complete t = refl
@@ -287,7 +287,7 @@ either_lasts : (b : Bool) (one two : Step) → Lasts one → Lasts two → Lasts
 either_lasts true one two first second = first
 either_lasts false one two first second = second
 
-ends_last : (emeta : Bool) (places : List ℕ) → is_final (ends_as emeta places) ≡ true
+pub ends_last : (emeta : Bool) (places : List ℕ) → is_final (ends_as emeta places) ≡ true
 ends_last true places = refl
 ends_last false [] = refl
 ends_last false (place ∷ places) = refl

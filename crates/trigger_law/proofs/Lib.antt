@@ -1,1 +1,3 @@
 mod FinalLemmas
+mod NumberLemmas
+mod OpenLemmas

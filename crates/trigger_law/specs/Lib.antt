@@ -1,1 +1,2 @@
 pub mod FinalTriggers
+pub mod OpenSteps

@@ -2,3 +2,4 @@
 #![tactic(auto)]
 
 pub mod final_triggers;
+pub mod open_steps;

@@ -1,16 +1,14 @@
 -- What the kept objects are after each call, and their lengths together.
-use Rattle.std.proofs.Common.{◌≡◌, ℕ, ◌+◌, ◌-◌, ◌<◌, ◌≤◌, ◌⊎◌, inl, inr, Bool, true, false, cond, not, nat_le, List, [], ◌∷◌, ◌++◌, Option, None, Some, filter, find, option_to_list, refl, sym, ap, ◌∙◌, subst, append_assoc, arith}
-use Rattle.std.proofs.lemmas.List.Sums.{sum_by-cons, sum_by_push}
+use Rattle.std.proofs.Common.{◌≡◌, ℕ, zero, suc, remove, slice_get, ◌+◌, ◌-◌, ◌<◌, ◌≤◌, ◌⊎◌, inl, inr, Bool, true, false, cond, not, nat_le, List, [], ◌∷◌, ◌++◌, Option, None, Some, filter, find, option_to_list, refl, sym, ap, ◌∙◌, subst, append_assoc, arith}
+use Rattle.std.proofs.lemmas.List.Sums.{sum_by-cons, sum_by_push, sum_by-remove}
 use Rattle.std.proofs.lemmas.Bool.{cases_lt, le-leb, leb-true, lt-leb, and_parts}
 use Rattle.std.proofs.lemmas.List.{append-nil}
-use Rattle.std.proofs.lemmas.Option.{none-some}
+use Rattle.std.proofs.lemmas.Option.{none-some, get_or_from_slice_get, slice_get_within}
 use Rattle.cdni_base.specs.Key.{KeyParts}
 use Rattle.cdni_base.specs.KeyEqualityLemmas.{key_decides}
 use Rattle.rows.specs.Row.{moved}
-use Rattle.trigger_command.specs.Selection.{hits}
-use Rattle.trigger_command.specs.declared.selection.Selection.{Selection}
 use Rattle.object_cache.specs.declared.object.Object.{Object}
-use Rattle.object_cache.specs.ObjectTable.{AreApart, Kept, evicted, filled, is_filled, is_of, kept_of, length_of, others, total, unhit}
+use Rattle.object_cache.specs.ObjectTable.{AreApart, Kept, evicted, filled, is_filled, is_of, kept_of, length_of, others, total}
 
 -- a table with these
 abbrev pub kept : ℕ → List Object → ℕ → Kept
@@ -168,12 +166,26 @@ apart_filled most xs o h =
     apart_push [] (evicted most (others o.key xs)) o (apart_evicted most [] (others o.key xs) (apart_filter (λ p. not (is_of o.key p)) [] xs h))
     (none_evicted (is_of o.key) most (others o.key xs) (none_other (is_of o.key) xs))
 
--- where the first object leaves a list
-pub apart_next : (a xs ys : List Object) (x : Object) → ys ≡ x ∷ xs → AreApart a ys → AreApart a xs
-apart_next a xs ys x is h = apart_rest a xs x (subst (AreApart a) is h)
+-- the object at an index leaves
+pub apart_remove : (a xs : List Object) (i : ℕ) → AreApart a xs → AreApart a (remove xs i)
+apart_remove a [] zero h = tt
+apart_remove a [] (suc i) h = tt
+apart_remove a (x ∷ xs) zero h = apart_rest a xs x h
+apart_remove a (x ∷ xs) (suc i) h = (h.0, apart_remove (a ++ x ∷ []) xs i h.1)
 
--- and a selection hits it
-pub unhit_next : (selection : Selection) (xs ys : List Object) (x : Object) → ys ≡ x ∷ xs → hits selection x.key x.ccid ≡ true
-    → unhit selection ys ≡ unhit selection xs
-unhit_next selection xs ys x is hit =
-    ap (unhit selection) is ∙ ap (λ (t : Bool). cond (not t) (x ∷ unhit selection xs) (unhit selection xs)) hit
+pub total_remove : (xs : List Object) (i : ℕ) (o : Object) → slice_get xs i ≡ Some o → total (remove xs i) + length_of o ≡ total xs
+total_remove xs i o is =
+    ap (λ (x : Object). total (remove xs i) + length_of x) (sym (get_or_from_slice_get xs i o o is))
+    ∙ sum_by-remove length_of xs i o (slice_get_within xs i o is)
+
+-- where an object has the key, none behind it has
+pub apart_behind : (key : KeyParts) (a xs : List Object) → (kept_of key a ≡ None → ⊥) → AreApart a xs → kept_of key xs ≡ None
+apart_behind key a [] some h = refl
+apart_behind key a (x ∷ xs) some h =
+    let no : is_of key x ≡ false = not_both (is_of key x) (λ is. some (subst (λ k. kept_of k a ≡ None) (sym ((key_decides key x.key).0 is)) h.0)) in
+    ap (λ (b : Bool). cond b (Some x) (kept_of key xs)) no
+    ∙ apart_behind key (a ++ x ∷ []) xs (λ none. some (none_left (is_of key) a (x ∷ []) none)) h.1
+  where
+    not_both : (b : Bool) → (b ≡ true → ⊥) → b ≡ false
+    not_both true h = absurd (h refl)
+    not_both false h = refl

@@ -2,8 +2,6 @@
 use Rattle.std.specs.Prelude.{◌≡◌, ℕ, Bool, false, not, nat_lt, nat_le, ◌&&◌, if◌then◌else◌, List, [], ◌∷◌, ◌++◌, None, Some, length, filter, find, sum_by}
 use Rattle.std.specs.declared.option.Option.{Option}
 use Rattle.cdni_base.specs.Key.{KeyParts, same_key}
-use Rattle.trigger_command.specs.Selection.{hits}
-use Rattle.trigger_command.specs.declared.selection.Selection.{Selection}
 use Rattle.object_cache.specs.declared.object.Object.{Object}
 
 -- the most bytes that are kept, the objects, the least recently used first, and how many more can be filled in without
@@ -32,10 +30,6 @@ kept_of key objects = find (is_of key) objects
 -- the others
 abbrev pub others : KeyParts → List Object → List Object
 others key objects = filter (λ object. not (is_of key object)) objects
-
--- those that a selection does not hit (RFC 8007, section 5.2.1)
-abbrev pub unhit : Selection → List Object → List Object
-unhit selection objects = filter (λ object. not (hits selection object.key object.ccid)) objects
 
 -- no object has the key of one before it, nor of one of the first list, which stands before them all
 abbrev pub AreApart : List Object → List Object → Type 0

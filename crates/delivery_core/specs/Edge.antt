@@ -24,12 +24,12 @@ use Rattle.history.specs.World.{Kept}
 use Rattle.history.specs.declared.begun.Admission.{Admission}
 use Rattle.history.specs.declared.begun.Fetching.{Fetching}
 use Rattle.delivery_core.specs.Installed.{Seen, invalidated}
-use Rattle.delivery_core.specs.Open.{unnamed}
+use Rattle.shelf.specs.Open.{unnamed}
 use Rattle.delivery_core.specs.Refreshes.{Refreshing, first_noted, noted_of, with_starts}
-use Rattle.delivery_core.specs.Shelf.{is_gained, brought, struck, unhit}
+use Rattle.shelf.specs.KeptShelf.{is_gained, brought, struck, unhit}
 use Rattle.delivery_core.specs.declared.decision.Decision.{Decision}
 use Rattle.delivery_core.specs.declared.decision.Decision.TheVariants as decision
-use Rattle.delivery_core.specs.declared.open.Open.{Open}
+use Rattle.shelf.specs.declared.open.Open.{Open}
 use Rattle.delivery_core.specs.declared.results.Admitted.{Admitted}
 use Rattle.delivery_core.specs.declared.results.Admitted.TheVariants as admitted
 use Rattle.delivery_core.specs.declared.results.Began.{Began}
@@ -37,7 +37,7 @@ use Rattle.delivery_core.specs.declared.results.Began.TheVariants as began
 use Rattle.delivery_core.specs.declared.results.Planned.{Planned}
 use Rattle.delivery_core.specs.declared.results.RefreshEnded.{RefreshEnded}
 use Rattle.delivery_core.specs.declared.results.RefreshEnded.TheVariants as ended_as
-use Rattle.delivery_core.specs.declared.shelf.Flight.{Flight}
+use Rattle.shelf.specs.declared.kept_shelf.Flight.{Flight}
 
 pub record EdgeView : Type 0 where
   pub limits : Bounds

@@ -5,7 +5,7 @@ ghost use Rattle.std.specs.List.{find};
 ghost use Rattle.history.specs.After.{admission, is_secure, row_of};
 ghost use Rattle.metadata_objects.specs.LevelData.{index_view};
 ghost use Rattle.metadata_objects.specs.Tree.{tree_view};
-ghost use Rattle.delivery_core.specs.Open.{is_named};
+ghost use Rattle.shelf.specs.Open.{is_named};
 ghost use Rattle.delivery_core.specs.Refreshes.{end_reply};
 ghost use Rattle.delivery_core.specs.Edge.{allowed, of_collection, resources_of};
 
@@ -16,7 +16,6 @@ use crate::installed::Installed;
 use crate::records::{Ending, Records};
 use crate::refreshes::{Ended, Refreshes};
 use crate::results::{Admitted, Began, Planned, RefreshEnded};
-use crate::shelf::Shelf;
 use cdni_base::{Asked, EndpointList, Key, Limits, Moment, Protocol, Rule, Target, Text};
 use cdni_log::RowList;
 use history::{Admission, Fetching};
@@ -24,6 +23,7 @@ use inheritance::Effective;
 use location_acl::Place;
 use metadata_objects::{HostIndex, Tree};
 use object_cache::Object;
+use shelf::Shelf;
 use std::alloc::{AllocError, Global};
 use std::marker::Model;
 use trigger_command::Selection;
@@ -32,8 +32,9 @@ use verdict::plan;
 
 /// The installed metadata, what is kept of fetches, the deliveries, fetches and refreshes that are open, and the rows of
 /// finished deliveries that no log file has. It is seen as what a history leaves of these, without positions. Each call
-/// takes constant time on average, whatever is kept and open, but for what the metadata of one target takes and the objects
-/// that leave; the start of a trigger goes through what is kept and open.
+/// takes constant time on average, whatever is kept and open, but for what the metadata of one target takes, the starts of
+/// triggers that an object was not tried with, and the objects that leave; where there were starts, the first fetch after
+/// them that is kept goes through what is kept.
 #[derive(Drop)]
 pub struct Edge {
     limits: Limits,
@@ -78,7 +79,8 @@ impl Model for Edge {
     } };
 
     ghost invariant = { λ e. (e.shelf.limit ≡ e.limits.cache)
-        × (e.installations + length e.refreshes.refreshes ≤ e.refreshes.refreshed) };
+        × (e.installations + length e.refreshes.refreshes ≤ e.refreshes.refreshed)
+        × (e.shelf.starts ≡ e.refreshes.started) };
 }
 
 impl Edge {

@@ -1,6 +1,6 @@
 -- What passes began under numbers.
 use Rattle.std.specs.Prelude.{ℕ, ◌<◌, ◌≤◌, Bool, not, ◌==◌, ◌&&◌, List, [], ◌∷◌, filter}
-use Rattle.delivery_core.specs.declared.open.Open.{Open}
+use Rattle.shelf.specs.declared.open.Open.{Open}
 
 module _ {T : Type 0} where
   -- this pass began it under this number

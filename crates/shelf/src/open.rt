@@ -4,7 +4,7 @@ ghost use Rattle.std.specs.Prelude.{◌≡◌, nat_eq, ◌&&◌};
 ghost use Rattle.std.proofs.Common.{rules};
 ghost use Rattle.std.specs.Cmp.Rules.{comparing, hashing};
 ghost use Rattle.std.specs.Hash as fed;
-ghost use Rattle.delivery_core.specs.OpenEquality.{named_alike};
+ghost use Rattle.shelf.specs.OpenEquality.{named_alike};
 
 use indexmap::Equivalent;
 use std::hash::{Hash, Hasher};
@@ -45,7 +45,7 @@ impl<T> Hash for Open<T> {
 
 /// A query for what this pass began under this number.
 #[derive(Clone, Copy)]
-pub(crate) struct Named {
+pub struct Named {
     pub number: u64,
     pub pass: u32,
 }
@@ -55,6 +55,7 @@ impl PartialEq for Named {
 
     ghost laws = { Prim.search (comparing, rules) };
 
+    /// Whether number and pass are the same.
     fn eq(&self, other: &Named) -> bool {
         self.number == other.number && self.pass == other.pass
     }
@@ -69,6 +70,7 @@ impl Hash for Named {
 
     ghost respects_eq = { Prim.search (hashing, rules) };
 
+    /// Feeds the number.
     fn hash<H: Hasher>(&self, state: &mut H) {
         self.number.hash(state);
     }
@@ -82,6 +84,7 @@ impl<T> Equivalent<Open<T>> for Named {
     ghost respects_eq = { λ q x y.
         named_alike (q.number, q.pass) (x.number, x.pass) (y.number, y.pass) };
 
+    /// Whether it stands for this.
     fn equivalent(&self, open: &Open<T>) -> bool {
         open.number == self.number && open.pass == self.pass
     }

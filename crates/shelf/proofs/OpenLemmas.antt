@@ -2,8 +2,8 @@
 use Rattle.std.proofs.Common.{◌≡◌, ℕ, ◌<◌, ◌≤◌, Bool, true, false, cond, List, [], ◌∷◌, ◌++◌, None, Some, refl, ap, ◌∙◌, arith, nat_eq, ◌&&◌}
 use Rattle.std.specs.List.{filter, find}
 use Rattle.std.proofs.lemmas.Bool.{ne_eqb}
-use Rattle.delivery_core.specs.Open.{AreRising, AreUpTo}
-use Rattle.delivery_core.specs.declared.open.Open.{Open}
+use Rattle.shelf.specs.Open.{AreRising, AreUpTo}
+use Rattle.shelf.specs.declared.open.Open.{Open}
 
 module _ {T : Type 0} where
   pub none_named : (last number pass : ℕ) (all : List (Open T)) → AreUpTo last all → last < number → find (λ (y : Open T). nat_eq number y.number && nat_eq pass y.pass) all ≡ None

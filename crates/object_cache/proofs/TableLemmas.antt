@@ -1,6 +1,6 @@
 -- What the kept objects are after each call, and their lengths together.
-use Rattle.std.proofs.Common.{◌≡◌, ℕ, zero, suc, remove, slice_get, ◌+◌, ◌-◌, ◌<◌, ◌≤◌, ◌⊎◌, inl, inr, Bool, true, false, cond, not, nat_le, List, [], ◌∷◌, ◌++◌, Option, None, Some, filter, find, option_to_list, refl, sym, ap, ◌∙◌, subst, append_assoc, arith}
-use Rattle.std.proofs.lemmas.List.Sums.{sum_by-cons, sum_by_push, sum_by-remove}
+use Rattle.std.proofs.Common.{◌≡◌, ℕ, zero, suc, remove, slice_get, ◌+◌, ◌-◌, ◌<◌, ◌≤◌, ◌⊎◌, inl, inr, Bool, true, false, cond, not, nat_le, List, [], ◌∷◌, ◌++◌, Option, None, Some, filter, find, map, option_to_list, refl, sym, ap, ◌∙◌, subst, append_assoc, arith}
+use Rattle.std.proofs.lemmas.List.Sums.{sum_by-append, sum_by-cons, sum_by_push, sum_by-remove}
 use Rattle.std.proofs.lemmas.Bool.{cases_lt, le-leb, leb-true, lt-leb, and_parts}
 use Rattle.std.proofs.lemmas.List.{append-nil}
 use Rattle.std.proofs.lemmas.Option.{none-some, get_or_from_slice_get, slice_get_within}
@@ -8,7 +8,7 @@ use Rattle.cdni_base.specs.Key.{KeyParts}
 use Rattle.cdni_base.specs.KeyEqualityLemmas.{key_decides}
 use Rattle.rows.specs.Row.{moved}
 use Rattle.object_cache.specs.declared.object.Object.{Object}
-use Rattle.object_cache.specs.ObjectTable.{AreApart, Kept, evicted, filled, is_filled, is_of, kept_of, length_of, others, total}
+use Rattle.object_cache.specs.ObjectTable.{AreApart, Kept, evicted, filled, is_filled, is_of, kept_of, length_of, others, renewed, renewed_one, total}
 
 -- a table with these
 abbrev pub kept : ℕ → List Object → ℕ → Kept
@@ -189,3 +189,31 @@ apart_behind key a (x ∷ xs) some h =
     not_both : (b : Bool) → (b ≡ true → ⊥) → b ≡ false
     not_both true h = absurd (h refl)
     not_both false h = refl
+
+-- the key's object at the end with another last start
+module _ (key : KeyParts) (begun : ℕ) (xs : List Object) where
+  pub renewed_none : kept_of key xs ≡ None → others key xs ≡ xs → renewed key begun xs ≡ xs
+  renewed_none none all = ap (λ o. others key xs ++ map (renewed_one begun) (option_to_list o)) none ∙ append-nil (others key xs) ∙ all
+
+  pub renewed_some : (o : Object) → kept_of key xs ≡ Some o → renewed key begun xs ≡ others key xs ++ renewed_one begun o ∷ []
+  renewed_some o is = ap (λ found. others key xs ++ map (renewed_one begun) (option_to_list found)) is
+
+  pub none_renewed : (o : Object) → kept_of key xs ≡ Some o → kept_of o.key (others key xs) ≡ None
+  none_renewed o is = subst (λ k. kept_of k (others key xs) ≡ None) ((key_decides key o.key).0 (found_passes (is_of key) xs o is)) (none_other (is_of key) xs)
+
+  pub apart_renewed : AreApart [] xs → AreApart [] (renewed key begun xs)
+  apart_renewed h = renewed_by (kept_of key xs) refl
+    where
+      renewed_by : (found : Option Object) → kept_of key xs ≡ found → AreApart [] (others key xs ++ map (renewed_one begun) (option_to_list found))
+      renewed_by None is = rw append-nil (apart_filter (λ o. not (is_of key o)) [] xs h)
+      renewed_by (Some o) is = apart_push [] (others key xs) (renewed_one begun o) (apart_filter (λ p. not (is_of key p)) [] xs h) (none_renewed o is)
+
+-- the lengths, where an object was taken out and is back at the end
+pub total_renewed : (before behind old rest : List Object) (o p : Object) → old ≡ before ++ o ∷ behind → rest ≡ before ++ behind → length_of p ≡ length_of o
+    → total (rest ++ p ∷ []) ≡ total old
+total_renewed before behind old rest o p was is same =
+    let a = sum_by_push length_of rest p in
+    let b = sum_by-append length_of before (o ∷ behind) in
+    let c = sum_by-append length_of before behind in
+    let d = sum_by-cons length_of o behind in
+    omega (arith, a, b, c, d, same, ap total was, ap total is)

@@ -3,7 +3,7 @@
 ghost use Rattle.std.specs.Prelude.{◌≡◌, ◌+◌, ◌-◌, ◌<◌, ◌≤◌, ◌^◌, [], ◌∷◌, ◌++◌, Ok, Some, OnOk, OnErr, length, remove, slice_get};
 ghost use Rattle.std.specs.Option.{option_map};
 ghost use Rattle.rows.specs.Row.{moved};
-ghost use Rattle.object_cache.specs.ObjectTable.{AreApart, evicted, filled, is_filled, is_newer, is_of, kept_of, length_of, others, total};
+ghost use Rattle.object_cache.specs.ObjectTable.{AreApart, evicted, filled, is_filled, is_newer, is_of, kept_of, length_of, others, renewed, total};
 
 use crate::object::{Object, Wanted};
 use cdni_base::{Body, Key};
@@ -81,6 +81,32 @@ impl ObjectTable {
         ensures apart { AreApart [] self.old.objects }
     {
         self.row.touch(Wanted { key });
+    }
+
+    /// Moves the object that is kept under the key to the end, as `touch` does, and notes that the starts up to this one
+    /// need not be tried on it.
+    ///
+    /// # Errors
+    /// Want of memory. The table is then as before.
+    pub fn renew(&mut self, alloc: Global, key: &Key, begun: u64) -> Result<(), AllocError>
+        ensures after { OnOk result (self.new ≡ record self.old { objects = renewed key.now begun self.old.objects }) }
+        ensures apart { AreApart [] self.old.objects }
+        ensures refused { OnErr result (self.new ≡ self.old) }
+    {
+        let Some(spare) = self.row.spare().checked_add(1) else {
+            return Err(AllocError);
+        };
+        self.row.reserve(alloc, spare)?;
+        renew(&mut self.row, key, begun);
+        Ok(())
+    }
+
+    /// Takes out the object that is kept under the key. It takes no memory.
+    pub fn take(&mut self, key: &Key)
+        ensures after { self.new ≡ record self.old { objects = others key.now self.old.objects } }
+        ensures apart { AreApart [] self.old.objects }
+    {
+        take_key(&mut self.row, &mut self.sum, key);
     }
 
     /// How many objects are kept.
@@ -189,10 +215,33 @@ fn take_key(row: &mut Row<Object>, sum: &mut u64, key: &Key)
     requires { sum.old ≡ total row.old.items }
     ensures row { row.new ≡ record row.old { items = others key.now row.old.items } }
     ensures sum { sum.new ≡ total row.new.items }
+    ensures lower { sum.new ≤ sum.old }
 {
     match row.take(Wanted { key }) {
         Some(object) => lower(sum, object),
         None => {}
+    }
+}
+
+// moves the key's object to the end at a reserved place, with another last start
+fn renew(row: &mut Row<Object>, key: &Key, begun: u64)
+    requires { 0 < row.old.spare }
+    ensures row { row.new ≡ record {
+      items = renewed key.now begun row.old.items;
+      spare = row.old.spare - 1;
+    } }
+    ensures total { total row.new.items ≡ total row.old.items }
+{
+    match row.take(Wanted { key }) {
+        Some(object) => row.push(Object {
+            key: object.key,
+            fetch: object.fetch,
+            ccid: object.ccid,
+            kind: object.kind,
+            body: object.body,
+            begun,
+        }),
+        None => row.give_back(),
     }
 }
 

@@ -46,6 +46,11 @@ impl PlainShelf {
         Ok(self.fetched)
     }
 
+    /// How many fetches were opened.
+    pub fn fetched(&self) -> u64 {
+        self.fetched
+    }
+
     /// What is kept under the key.
     pub fn find(&self, key: &Key) -> Option<&Object> {
         let place = place_of(&self.kept, key)?;
@@ -141,7 +146,11 @@ impl PlainShelf {
 // the place of the object of this key
 fn place_of(kept: &Vec<Object>, key: &Key) -> Option<usize> {
     let place = kept.iter().position(|object| object.key == *key)?;
-    if place < kept.len() { Some(place) } else { None }
+    if place < kept.len() {
+        Some(place)
+    } else {
+        None
+    }
 }
 
 // an open fetch, marked where the selection hits it

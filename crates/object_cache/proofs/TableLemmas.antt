@@ -101,7 +101,7 @@ module _ (test : Object → Bool) where
       left_by true h rest = h
       left_by false h rest = rest h
 
-  none_right : (a b : List Object) → find test (a ++ b) ≡ None → find test b ≡ None
+  pub none_right : (a b : List Object) → find test (a ++ b) ≡ None → find test b ≡ None
   none_right [] b h = h
   none_right (x ∷ a) b h = none_right a b (none_rest test (test x) x (find test (a ++ b)) h)
 

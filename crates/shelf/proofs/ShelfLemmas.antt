@@ -9,8 +9,11 @@ use Rattle.rows.specs.Row.{moved}
 use Rattle.object_cache.specs.ObjectTable as objects
 use Rattle.object_cache.specs.declared.object.Object.{Object}
 use Rattle.upstream_gate.specs.Got.{GotParts}
+use Rattle.upstream_gate.specs.declared.outcome.Outcome.{Outcome}
 use Rattle.upstream_gate.specs.declared.outcome.Outcome.TheVariants as outcome
-use Rattle.history.specs.Kept.{is_of, kept_of, used, total, size_of, evicted, put, is_newer, is_kept, kept_content, with_gained}
+use Rattle.std.proofs.lemmas.Bool.{and_right, not_from_true}
+use Rattle.history.specs.Kept.{is_of, kept_of, used, total, size_of, evicted, put, is_newer, is_kept, kept_content, full_content, with_gained}
+use Rattle.history.specs.Kept.{brought as content}
 use Rattle.history.specs.World.{Kept}
 use Rattle.shelf.proofs.ListLemmas.{find-map, filter-map, option_to_list-map, sum_by-map}
 use Rattle.shelf.specs.KeptShelf.{ShelfView, kept_object, gain, is_gained, brought}
@@ -97,3 +100,18 @@ module _ (limit : ℕ) (os : List Object) (flight : Open Flight) (got : GotParts
 
     pub brought_full : brought limit (map kept_object os) flight (outcome.Got got) ≡ map kept_object (objects.filled limit os (object_of flight got begun))
     brought_full = ap (with_gained limit (map kept_object os)) gain_is ∙ brought_by (objects.is_filled limit os (object_of flight got begun))
+
+-- nothing of content with another status, nor of what a start has hit
+module _ (limit : ℕ) (kept : List Kept) (flight : Open Flight) where
+  pub brought_other : (got : GotParts) → (got.status == 200) ≡ false → kept ≡ brought limit kept flight (outcome.Got got)
+  brought_other got other =
+      sym (ap (λ t. with_gained limit kept (option_and_then (kept_content limit flight.what.hit kept flight.number flight.what.fetching) (cond t (Some got) None))) other)
+
+  hit_by : flight.what.hit ≡ true → (found : Option GotParts) → kept ≡ with_gained limit kept (option_and_then (kept_content limit flight.what.hit kept flight.number flight.what.fetching) found)
+  hit_by hit None = refl
+  hit_by hit (Some got) =
+      let fits = nat_le (length got.body) limit && not (is_newer flight.number (kept_of flight.what.fetching.key kept)) in
+      sym (ap (λ t. with_gained limit kept (cond t (Some (content flight.number flight.what.fetching got)) None)) (and_right fits (not flight.what.hit) (not_from_true flight.what.hit hit)))
+
+  pub brought_hit : (ended : Outcome) → flight.what.hit ≡ true → kept ≡ brought limit kept flight ended
+  brought_hit ended hit = hit_by hit (full_content ended)

@@ -1,5 +1,5 @@
 -- What starts leave of the objects of a table and of the open fetches.
-use Rattle.std.proofs.Common.{◌≡◌, ℕ, suc, ◌+◌, ◌<◌, ◌≤◌, max, min, Bool, true, false, cond, not, nat_le, nat_lt, List, [], ◌∷◌, ◌++◌, length, map, take, drop, remove, slice_get, get_or, None, Some, refl, sym, ap, ◌∙◌, subst, ◌&&◌, ◌||◌, arith, inl, inr}
+use Rattle.std.proofs.Common.{◌≡◌, ℕ, zero, suc, append_assoc, length-take, length-append, ◌+◌, ◌<◌, ◌≤◌, max, min, Bool, true, false, cond, not, nat_le, nat_lt, List, [], ◌∷◌, ◌++◌, length, map, take, drop, remove, slice_get, get_or, None, Some, refl, sym, ap, ◌∙◌, subst, ◌&&◌, ◌||◌, arith, inl, inr}
 use Rattle.std.specs.List.{filter, find}
 use Rattle.std.specs.Option.{option_map, option_to_list}
 use Rattle.std.specs.declared.option.Option.{Option}
@@ -16,7 +16,7 @@ use Rattle.object_cache.specs.declared.object.Object.{Object}
 use Rattle.object_cache.proofs.TableLemmas.{apart_behind, none_right}
 use Rattle.trigger_command.specs.Selection.{hits}
 use Rattle.trigger_command.specs.declared.selection.Selection.{Selection}
-use Rattle.history.specs.Kept.{kept_of, used}
+use Rattle.history.specs.Kept.{is_of, kept_of, used}
 use Rattle.shelf.proofs.ListLemmas.{find-map, filter-map}
 use Rattle.shelf.proofs.ShelfLemmas.{used_kept}
 use Rattle.shelf.specs.KeptShelf.{AreBegun, AreUpToEpoch, content_of, flight_of, is_gone, is_hit, kept_in, kept_object, least_begun, least_needed, struck, unhit}
@@ -94,10 +94,10 @@ least_over : (low high : ℕ) (fs : List (Open Launched)) → AreBegun low high 
 least_over low high [] so = so
 least_over low high (f ∷ fs) so = let rest = least_over f.what.begun high fs so.1 in omega (arith, so.0, rest)
 
-pub least_first : (low high : ℕ) (f : Open Launched) (fs : List (Open Launched)) → AreBegun low high (f ∷ fs) → f.what.begun ≡ least_begun high (f ∷ fs)
+least_first : (low high : ℕ) (f : Open Launched) (fs : List (Open Launched)) → AreBegun low high (f ∷ fs) → f.what.begun ≡ least_begun high (f ∷ fs)
 least_first low high f fs so = let rest = least_over f.what.begun high fs so.1 in omega (arith, rest)
 
-least_top : (high : ℕ) (fs : List (Open Launched)) → least_begun high fs ≤ high
+pub least_top : (high : ℕ) (fs : List (Open Launched)) → least_begun high fs ≤ high
 least_top high [] = omega arith
 least_top high (f ∷ fs) = let rest = least_top high fs in omega (arith, rest)
 
@@ -109,9 +109,33 @@ least_push : (high : ℕ) (fs : List (Open Launched)) (one : Open Launched) → 
 least_push high [] one is = omega (arith, is)
 least_push high (f ∷ fs) one is = ap (λ n. min f.what.begun n) (least_push high fs one is)
 
+pub first_least : (low high : ℕ) (f : Open Launched) (fs : List (Open Launched)) → AreBegun low high fs → Some f ≡ slice_get fs 0 → f.what.begun ≡ least_begun high fs
+first_least low high f [] so is = absurd (none-some f (sym is))
+first_least low high f (g ∷ gs) so is = ap (λ (one : Open Launched). one.what.begun) (same_Some f g is) ∙ least_first low high g gs so
+
+pub none_least : (high : ℕ) (fs : List (Open Launched)) → None ≡ slice_get fs 0 → high ≡ least_begun high fs
+none_least high [] is = refl
+none_least high (g ∷ gs) is = absurd (none-some g is)
+
+pub found_begun : (test : Open Launched → Bool) (low high : ℕ) (fs : List (Open Launched)) (f : Open Launched) → AreBegun low high fs → find test fs ≡ Some f → f.what.begun ≤ high
+found_begun test low high [] f so is = absurd (none-some f is)
+found_begun test low high (g ∷ gs) f so is = found_by (test g) is (found_begun test g.what.begun high gs f so.1)
+  where
+    found_by : (t : Bool) → cond t (Some g) (find test gs) ≡ Some f → (find test gs ≡ Some f → f.what.begun ≤ high) → f.what.begun ≤ high
+    found_by true is rest = let same = ap (λ (one : Open Launched). one.what.begun) (same_Some g f is) in let top = begun_top g.what.begun high gs so.1 in omega (arith, same, top)
+    found_by false is rest = rest is
+
 -- ---- which starts are needed
 
 module _ (newest noted : ℕ) where
+  pub needed_none : (os : List Object) (fs : List (Open Launched)) → length os ≡ 0 → least_begun newest fs ≡ least_needed newest noted os fs
+  needed_none [] fs none = refl
+  needed_none (o ∷ os) fs none = absurd (omega (arith, none))
+
+  pub needed_some : (os : List Object) (fs : List (Open Launched)) → (length os ≡ 0 → ⊥) → min (least_begun newest fs) noted ≡ least_needed newest noted os fs
+  needed_some [] fs some = absurd (some refl)
+  needed_some (o ∷ os) fs some = refl
+
   needed_begun : (os : List Object) (fs : List (Open Launched)) → least_needed newest noted os fs ≤ least_begun newest fs
   needed_begun [] fs = omega arith
   needed_begun (o ∷ os) fs = omega arith
@@ -251,7 +275,7 @@ module _ (starts : List Start) (noted : ℕ) where
 
   pub found_in : (key : KeyParts) (os : List Object) → objects.AreApart [] os
       → kept_of key (kept_in starts noted os) ≡ option_map kept_object (live_one starts noted (objects.kept_of key os))
-  found_in key os apart = find-map kept_object (objects.is_of key) (live starts noted os) ∙ ap (option_map kept_object) (find_live key [] os apart)
+  found_in key os apart = find-map kept_object (λ k. is_of key k) (live starts noted os) ∙ ap (option_map kept_object) (find_live key [] os apart)
 
   filters_swap : (p q : Object → Bool) (os : List Object) → filter p (filter q os) ≡ filter q (filter p os)
   filters_swap p q [] = refl
@@ -321,3 +345,21 @@ module _ {A : Type 0} where
       by : (t : Bool) → cond t (remove now i) now ≡ before ++ cond (not t) (x ∷ filter (λ y. not (gone y)) behind) (filter (λ y. not (gone y)) behind)
       by true = ap (λ xs. remove xs i) is ∙ ap (λ n. remove (before ++ x ∷ filter (λ y. not (gone y)) behind) n) (sym at) ∙ remove_middle before x (filter (λ y. not (gone y)) behind)
       by false = is
+
+  pub swept_at : (gone : A → Bool) (os now new : List A) (i k : ℕ) (o : A) → i ≡ k + 1 → i ≤ length os → now ≡ take i os ++ filter (λ y. not (gone y)) (drop i os)
+      → slice_get now k ≡ Some o → new ≡ cond (gone o) (remove now k) now → new ≡ take k os ++ filter (λ y. not (gone y)) (drop k os)
+  swept_at gone os now new i k o one few is there step =
+      let l : k < length os = omega (arith, one, few) in
+      let at : length (take k os) ≡ k = omega (arith, length-take k os, l) in
+      let rest = filter (λ y. not (gone y)) (drop (k + 1) os) in
+      swept_step gone (take k os) (get_or os k o) o (drop (k + 1) os) now new k at
+      (is ∙ ap (λ n. take n os ++ filter (λ y. not (gone y)) (drop n os)) one ∙ ap (λ xs. xs ++ rest) (take_more os k o l) ∙ append_assoc (take k os) (get_or os k o ∷ []) rest)
+      there step ∙ ap (λ ys. take k os ++ filter (λ y. not (gone y)) ys) (sym (drop_more os k o l))
+
+  pub there_at : (xs : List A) (k : ℕ) → k < length xs → (x : A) × (slice_get xs k ≡ Some x)
+  there_at [] k l = absurd (omega (arith, l))
+  there_at (x ∷ xs) zero l = (x, refl)
+  there_at (x ∷ xs) (suc k) l = there_at xs k (omega (arith, l))
+
+  pub all_tried : (test : A → Bool) (os now : List A) (i : ℕ) → i ≡ 0 → now ≡ take i os ++ filter test (drop i os) → now ≡ filter test os
+  all_tried test os now i none is = is ∙ ap (λ n. take n os ++ filter test (drop n os)) none

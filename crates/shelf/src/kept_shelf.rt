@@ -108,8 +108,14 @@ impl Shelf {
         ensures { option_map (λ o. kept_object o.now) result ≡ kept_of key.now self.now.kept }
     {
         match self.table.find(key) {
-            Some(object) if !is_gone(&self.epochs, self.noted, object) => Some(object),
-            _ => None,
+            Some(object) => {
+                if is_gone(&self.epochs, self.noted, object) {
+                    None
+                } else {
+                    Some(object)
+                }
+            }
+            None => None,
         }
     }
 
@@ -170,7 +176,10 @@ impl Shelf {
                 settle(&mut self.epochs, &self.table, self.noted, &self.flights);
                 Some(kept)
             }
-            None => None,
+            None => {
+                drop(outcome);
+                None
+            }
         }
     }
 }

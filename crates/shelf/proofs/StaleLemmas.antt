@@ -1,10 +1,10 @@
 -- What starts leave of the objects of a table and of the open fetches.
-use Rattle.std.proofs.Common.{◌≡◌, ℕ, zero, suc, append_assoc, length-take, length-append, ◌+◌, ◌<◌, ◌≤◌, max, min, Bool, true, false, cond, not, nat_le, nat_lt, List, [], ◌∷◌, ◌++◌, length, map, take, drop, remove, slice_get, get_or, None, Some, refl, sym, ap, ◌∙◌, subst, ◌&&◌, ◌||◌, arith, inl, inr}
+use Rattle.std.proofs.Common.{◌≡◌, ℕ, zero, suc, append_assoc, length-take, length-append, true≢false, ◌+◌, ◌<◌, ◌≤◌, max, min, Bool, true, false, cond, not, nat_le, nat_lt, List, [], ◌∷◌, ◌++◌, length, map, take, drop, remove, slice_get, get_or, None, Some, refl, sym, ap, ◌∙◌, subst, ◌&&◌, ◌||◌, arith, inl, inr}
 use Rattle.std.specs.List.{filter, find}
-use Rattle.std.specs.Option.{option_map, option_to_list}
+use Rattle.std.specs.Option.{is_some, option_map, option_to_list}
 use Rattle.std.specs.declared.option.Option.{Option}
 use Rattle.std.proofs.lemmas.Bool.{cases_Bool, cond-false, cond-true}
-use Rattle.std.proofs.lemmas.List.{drop_more, take_more, length-map}
+use Rattle.std.proofs.lemmas.List.{drop_more, take_more, map-append}
 use Rattle.std.proofs.lemmas.List.Elements.{filter-append, filter_agree}
 use Rattle.std.proofs.lemmas.Option.{none-some, same_Some}
 use Rattle.cdni_base.specs.Key.{KeyParts}
@@ -17,7 +17,8 @@ use Rattle.object_cache.proofs.TableLemmas.{apart_behind, none_right}
 use Rattle.trigger_command.specs.Selection.{hits}
 use Rattle.trigger_command.specs.declared.selection.Selection.{Selection}
 use Rattle.history.specs.Kept.{is_of, kept_of, used}
-use Rattle.shelf.proofs.ListLemmas.{find-map, filter-map}
+use Rattle.history.specs.World.{Kept}
+use Rattle.shelf.proofs.ListLemmas.{find-map, filter-map, filter_same}
 use Rattle.shelf.proofs.ShelfLemmas.{used_kept}
 use Rattle.shelf.specs.KeptShelf.{AreBegun, AreUpToEpoch, content_of, flight_of, is_gone, is_hit, kept_in, kept_object, least_begun, least_needed, struck, unhit}
 use Rattle.shelf.specs.declared.open.Open.{Open}
@@ -309,6 +310,60 @@ module _ (starts : List Start) (noted : ℕ) where
 
   pub kept_moved : (key : KeyParts) (os : List Object) → objects.AreApart [] os → kept_in starts noted (moved (objects.is_of key) os) ≡ used key (kept_in starts noted os)
   kept_moved key os apart = ap (map kept_object) (live_moved key os apart) ∙ used_kept key (live starts noted os)
+
+-- ---- an object that no start is tried on again
+
+module _ (newest : ℕ) where
+  up_one : (found : Option Object) → AreUpToEpoch newest (map (objects.renewed_one newest) (option_to_list found))
+  up_one None = tt
+  up_one (Some o) = (omega arith, tt)
+
+  pub up_renewed : (key : KeyParts) (os : List Object) → AreUpToEpoch newest os → AreUpToEpoch newest (objects.renewed key newest os)
+  up_renewed key os up = up_append newest (objects.others key os) (map (objects.renewed_one newest) (option_to_list (objects.kept_of key os))) (up_filter newest (λ o. not (objects.is_of key o)) os up) (up_one (objects.kept_of key os))
+
+  pub needed_renewed : (noted : ℕ) (key : KeyParts) (os : List Object) (fs : List (Open Launched)) → least_needed newest noted (objects.renewed key newest os) fs ≡ least_needed newest noted os fs
+  needed_renewed noted key [] fs = refl
+  needed_renewed noted key (o ∷ os) fs = renewed_by (objects.is_of key o)
+    where
+      renewed_by : (t : Bool) → least_needed newest noted (cond (not t) (o ∷ objects.others key os) (objects.others key os) ++ map (objects.renewed_one newest) (option_to_list (cond t (Some o) (objects.kept_of key os)))) fs
+          ≡ min (least_begun newest fs) noted
+      renewed_by true = needed_end newest noted (objects.others key os) (objects.renewed_one newest o) fs
+      renewed_by false = refl
+
+module _ (starts : List Start) (noted : ℕ) where
+  kept_end : (os : List Object) (o : Object) → is_gone starts noted o ≡ false → kept_in starts noted (os ++ o ∷ []) ≡ kept_in starts noted os ++ kept_object o ∷ []
+  kept_end os o stays =
+      ap (map kept_object) (filter-append (λ x. not (is_gone starts noted x)) os (o ∷ []) ∙ ap (λ t. live starts noted os ++ cond (not t) (o ∷ []) []) stays)
+      ∙ map-append kept_object (live starts noted os) (o ∷ [])
+
+  module _ (newest : ℕ) (swept : noted ≤ newest) (none : (key : KeyParts) (ccid : Option (List ℕ)) → is_stale starts newest key ccid ≡ false) (others : List Object) where
+    renewed_kept : (found : Option Object) → is_some (option_map kept_object (live_one starts noted found)) ≡ true
+        → kept_in starts noted (others ++ map (objects.renewed_one newest) (option_to_list found)) ≡ kept_in starts noted (others ++ option_to_list found)
+    renewed_kept None is = absurd (true≢false (sym is))
+    renewed_kept (Some o) is = by (is_gone starts noted o) refl
+      where
+        by : (gone : Bool) → is_gone starts noted o ≡ gone → kept_in starts noted (others ++ objects.renewed_one newest o ∷ []) ≡ kept_in starts noted (others ++ o ∷ [])
+        by true g = absurd (true≢false (sym is ∙ ap (λ t. is_some (option_map kept_object (cond t None (Some o)))) g))
+        by false g =
+            let at : max newest noted ≡ newest = omega (arith, swept) in
+            kept_end others (objects.renewed_one newest o) (ap (λ n. is_stale starts n o.key o.ccid) at ∙ none o.key o.ccid)
+            ∙ sym (kept_end others o g)
+
+  pub kept_renewed : (newest : ℕ) → noted ≤ newest → ((key : KeyParts) (ccid : Option (List ℕ)) → is_stale starts newest key ccid ≡ false) → (key : KeyParts) (os : List Object) → objects.AreApart [] os
+      → is_some (kept_of key (kept_in starts noted os)) ≡ true → kept_in starts noted (objects.renewed key newest os) ≡ used key (kept_in starts noted os)
+  kept_renewed newest swept none key os apart some =
+      renewed_kept newest swept none (objects.others key os) (objects.kept_of key os) (ap (λ (k : Option Kept). is_some k) (sym (found_in starts noted key os apart)) ∙ some)
+      ∙ kept_moved starts noted key os apart
+
+  none_mapped : (o : Option Object) → option_map kept_object o ≡ None → o ≡ None
+  none_mapped None is = refl
+  none_mapped (Some o) is = absurd (none-some (kept_object o) (sym is))
+
+  -- what is gone may leave
+  pub kept_others : (key : KeyParts) (os : List Object) → kept_of key (kept_in starts noted os) ≡ None → kept_in starts noted (objects.others key os) ≡ kept_in starts noted os
+  kept_others key os none =
+      ap (map kept_object) (filters_swap starts noted (λ o. not (is_gone starts noted o)) (λ o. not (objects.is_of key o)) os
+      ∙ filter_same (objects.is_of key) (live starts noted os) (none_mapped (find (objects.is_of key) (live starts noted os)) (sym (find-map kept_object (λ k. is_of key k) (live starts noted os)) ∙ none)))
 
 -- ---- what was swept
 

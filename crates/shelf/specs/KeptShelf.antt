@@ -1,5 +1,5 @@
 -- What is kept of fetches, and the fetches that are open.
-use Rattle.std.specs.Prelude.{◌≡◌, ℕ, ◌+◌, ◌≤◌, max, min, Bool, false, not, ◌||◌, List, ◌∷◌, [], ◌++◌, filter, length, map, None, Some, is_some}
+use Rattle.std.specs.Prelude.{◌≡◌, ℕ, ◌+◌, ◌≤◌, max, min, nat_le, Bool, true, false, not, ◌||◌, List, ◌∷◌, [], ◌++◌, filter, length, map, None, Some, is_some}
 use Rattle.std.specs.Option.{option_map}
 use Rattle.std.specs.declared.option.Option.{Option}
 use Rattle.epochs.specs.EpochsList.{Known, is_stale, past}
@@ -101,6 +101,11 @@ start_after s selection = record s {
 -- objects were tried
 abbrev pub is_gone : List Start → ℕ → Object → Bool
 is_gone starts noted object = is_stale starts (max object.begun noted) object.key object.ccid
+
+-- no start is left that was not tried on an object of the table since its fetch was opened or it was used
+abbrev pub was_tried : ℕ → Option Object → Bool
+was_tried newest None = true
+was_tried newest (Some object) = nat_le newest object.begun
 
 -- the other objects are kept
 abbrev pub kept_in : List Start → ℕ → List Object → List Kept

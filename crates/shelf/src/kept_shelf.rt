@@ -1,12 +1,12 @@
 //! What fetches brought, the fetches that are open, and the starts of triggers since.
 
-ghost use Rattle.std.specs.Prelude.{◌≡◌, ◌+◌, ◌^◌, ◌<◌, ◌≤◌, false, not, Ok, Some, [], ℕ, List, map, max, length, remove, slice_get, if◌then◌else◌, IfOk, IfNone, OnOk, OnErr, option_map};
+ghost use Rattle.std.specs.Prelude.{◌≡◌, ◌+◌, ◌^◌, ◌<◌, ◌≤◌, false, not, Ok, Some, [], ℕ, List, map, max, length, remove, slice_get, nat_le, ◌||◌, true, None, is_some, if◌then◌else◌, IfOk, IfNone, OnOk, OnErr, option_map};
 ghost use Rattle.std.specs.List.{find};
 ghost use Rattle.epochs.specs.EpochsList.{past};
 ghost use Rattle.object_cache.specs.ObjectTable as objects;
 ghost use Rattle.history.specs.Kept.{kept_of, used, gained, with_gained};
 ghost use Rattle.shelf.specs.Open.{is_named, AreRising};
-ghost use Rattle.shelf.specs.KeptShelf.{kept_object, opened, end_reply, end_after, start_after, brought, content_of, is_gained, AreBegun, AreUpToEpoch, flight_of, is_gone, is_hit, kept_in, least_begun, least_needed};
+ghost use Rattle.shelf.specs.KeptShelf.{kept_object, opened, end_reply, end_after, start_after, brought, content_of, is_gained, AreBegun, AreUpToEpoch, flight_of, is_gone, is_hit, kept_in, least_begun, least_needed, was_tried};
 
 use crate::open::{Named, Open};
 use cdni_base::Key;
@@ -126,6 +126,35 @@ impl Shelf {
         self.table.touch(key);
     }
 
+    /// What is kept under the key was used: it goes to the end, and no start so far is tried on it again. Where all were
+    /// tried already, it takes no memory.
+    ///
+    /// # Errors
+    /// Want of memory. Nothing has changed then.
+    pub fn renew(&mut self, alloc: Global, key: &Key) -> Result<(), AllocError>
+        requires { is_some (kept_of key.now self.old.kept) ≡ true }
+        ensures after { OnOk result (self.new ≡ record self.old { kept = used key.now self.old.kept }) }
+        ensures err { OnErr result (self.new ≡ self.old) }
+    {
+        let newest = self.epochs.newest();
+        if is_tried(&self.table, self.noted, newest, key) {
+            self.table.touch(key);
+            return Ok(());
+        }
+        self.table.renew(alloc, key, newest)?;
+        Ok(())
+    }
+
+    /// Nothing is kept under the key: what starts have hit of it leaves at once, so that no start is tried on it again. It
+    /// takes no memory. Nothing of what is seen changes.
+    pub fn forget(&mut self, key: &Key)
+        requires { kept_of key.now self.old.kept ≡ None }
+        ensures { self.new ≡ self.old }
+    {
+        self.table.take(key);
+        settle(&mut self.epochs, &self.table, self.noted, &self.flights);
+    }
+
     /// A trigger starts: what its selection hits is no longer kept, and of the open fetches that it hits nothing will be.
     /// It takes as many steps as the selection has items, whatever is kept and open, and memory for a copy of it, whose
     /// texts share their bytes.
@@ -189,6 +218,19 @@ fn is_gone(epochs: &Epochs, noted: u64, object: &Object) -> bool
     ensures { result ≡ is_gone epochs.now.known.starts noted object.now }
 {
     epochs.is_stale(object.begun.max(noted), &object.key, object.ccid.as_ref())
+}
+
+// whether no start is left that was not tried on the key's object
+fn is_tried(table: &ObjectTable, noted: u64, newest: u64, key: &Key) -> bool
+    ensures { result ≡ (nat_le newest noted || was_tried newest (objects.kept_of key.now table.now.objects)) }
+{
+    if newest <= noted {
+        return true;
+    }
+    match table.find(key) {
+        Some(object) => newest <= object.begun,
+        None => true,
+    }
 }
 
 // a copy of the part that selects content

@@ -4,5 +4,5 @@ use Rattle.delivery_core.proofs.edge.Edge.refresh_begin.Goals as goal
 pub invariant_of-self-2 : goal.invariant_of-self-2
 invariant_of-self-2 c =
     let i = c.self-2.invariant in
-    let few = i.1.0 in
-    (i.0, rw (c.in_ok-refresh.ensures.after, length-append) (omega (arith, few)), i.1.1)
+    let few = i.1 in
+    (i.0, rw (c.in_ok-refresh.ensures.after, length-append) (omega (arith, few)), i.2)

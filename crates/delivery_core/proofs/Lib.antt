@@ -1,3 +1,4 @@
+pub mod Decisions
 pub mod Growth
 pub mod PlacedLemmas
 pub mod RefreshLemmas

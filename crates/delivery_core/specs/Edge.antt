@@ -1,5 +1,5 @@
 -- The side of the core that delivers, as its calls see it: what a history leaves of it, without positions.
-use Rattle.std.specs.Prelude.{ℕ, ◌+◌, ◌^◌, ◌-◌, Bool, true, false, min, nat_lt, ◌==◌, List, [], ◌∷◌, ◌++◌, length, map, None, Some, if◌then◌else◌}
+use Rattle.std.specs.Prelude.{ℕ, ◌+◌, ◌^◌, ◌-◌, Bool, true, false, min, nat_lt, ◌==◌, List, [], ◌∷◌, ◌++◌, length, map, None, Some, if◌then◌else◌, ◌≡◌, is_some}
 use Rattle.std.specs.Option.{option_and_then, option_map}
 use Rattle.std.specs.declared.option.Option.{Option}
 use Rattle.cdni_base.specs.Limits.{Bounds}
@@ -80,6 +80,12 @@ decided index kept target None = allowed kept (objects_of index target) target
 abbrev pub decision_of : EdgeView → Asked → Place → ℕ → Decision
 decision_of v asked place moment = decided (index_of v) v.kept asked.target
     (forbidden (index_of v) (invalid_of v) asked place moment)
+
+-- a hit is of a key under which something is kept, and a miss of another
+abbrev pub IsOfKept : List Kept → Decision → Type 0
+IsOfKept kept (decision.Deny rule) = Unit {0}
+IsOfKept kept (decision.Hit key ccid found) = is_some (kept_of key kept) ≡ true
+IsOfKept kept (decision.Miss key ccid plan) = kept_of key kept ≡ None
 
 -- how many deliveries are open and rows unfiled, together
 abbrev pub pending : EdgeView → ℕ

@@ -1,8 +1,9 @@
 //! The edge: what is installed, kept and open.
 
-ghost use Rattle.std.specs.Prelude.{◌≡◌, ◌≤◌, ◌<◌, ◌^◌, ◌+◌, ◌++◌, ◌∷◌, [], Ok, IfOk, IfNone, OnErr, OnOk, OnSome, None, false, MatchOption, length, option_map};
+ghost use Rattle.std.specs.Prelude.{◌≡◌, ◌≤◌, ◌<◌, ◌^◌, ◌+◌, ◌++◌, ◌∷◌, [], Ok, IfOk, IfNone, OnErr, OnOk, OnSome, None, false, true, is_some, MatchOption, length, option_map};
 ghost use Rattle.std.specs.List.{find};
 ghost use Rattle.history.specs.After.{admission, is_secure, row_of};
+ghost use Rattle.history.specs.Kept.{kept_of};
 ghost use Rattle.metadata_objects.specs.LevelData.{index_view};
 ghost use Rattle.metadata_objects.specs.Tree.{tree_view};
 ghost use Rattle.shelf.specs.Open.{is_named};
@@ -84,7 +85,7 @@ impl Model for Edge {
 }
 
 impl Edge {
-    ghost use Rattle.delivery_core.specs.Edge.{EdgeView, empty, index_of, invalid_of, full_count, decision_of, admit_reply, admit_after, entered_reply, entered, with_denial, with_hit, with_miss, fetch_end_reply, fetch_end_after, finish_reply, finish_after, next_due, begin_reply, begin_after, newer, install_reply, install_after, without_refresh, refresh_end_reply, refresh_end_after, start_after, skips, plan_reply, plan_after, sourced};
+    ghost use Rattle.delivery_core.specs.Edge.{EdgeView, IsOfKept, empty, index_of, invalid_of, full_count, decision_of, admit_reply, admit_after, entered_reply, entered, with_denial, with_hit, with_miss, fetch_end_reply, fetch_end_after, finish_reply, finish_after, next_due, begin_reply, begin_after, newer, install_reply, install_after, without_refresh, refresh_end_reply, refresh_end_after, start_after, skips, plan_reply, plan_after, sourced};
 
     /// An edge with nothing installed, kept or open.
     ///
@@ -195,6 +196,7 @@ impl Edge {
     ) -> Result<Admitted, AllocError>
         requires delivered { self.old.delivered ≤ 2 ^ 62 }
         requires fetched { self.old.fetched ≤ 2 ^ 62 }
+        requires kept { IsOfKept self.old.kept decision }
         ensures reply { IfOk result (λ r. r ≡ entered_reply self.old decision) }
         ensures after { OnOk result (self.new ≡ entered self.old pass what decision) }
         ensures err { OnErr result (self.new ≡ self.old) }
@@ -235,14 +237,15 @@ impl Edge {
         key: Key,
         found: Found,
     ) -> Result<Admitted, AllocError>
-        requires { self.old.delivered ≤ 2 ^ 62 }
+        requires delivered { self.old.delivered ≤ 2 ^ 62 }
+        requires kept { is_some (kept_of key self.old.kept) ≡ true }
         ensures reply { IfOk result (λ r. r
             ≡ Admitted.Hit (self.old.delivered + 1) found.fetch found.kind found.body) }
         ensures after { OnOk result (self.new ≡ with_hit self.old pass what key) }
         ensures err { OnErr result (self.new ≡ self.old) }
     {
         self.records.reserve(alloc)?;
-        self.shelf.touch(&key);
+        self.shelf.renew(alloc, &key)?;
         let delivery = self.records.begin(pass, what);
         Ok(Admitted::Hit {
             delivery,
@@ -264,6 +267,7 @@ impl Edge {
     ) -> Result<Admitted, AllocError>
         requires delivered { self.old.delivered ≤ 2 ^ 62 }
         requires fetched { self.old.fetched ≤ 2 ^ 62 }
+        requires kept { kept_of key self.old.kept ≡ None }
         ensures reply { IfOk result (λ r. r
             ≡ Admitted.Miss (self.old.delivered + 1) (self.old.fetched + 1) plan) }
         ensures after { OnOk result (self.new ≡ with_miss self.old pass (of_collection what ccid false)
@@ -273,6 +277,7 @@ impl Edge {
         self.records.reserve(alloc)?;
         let copy = copy_of(&ccid)?;
         let what = of_collection(what, copy, false);
+        self.shelf.forget(&key);
         let fetch = self.shelf.open(alloc, pass, Fetching { key, ccid })?;
         let delivery = self.records.begin(pass, what);
         Ok(Admitted::Miss {

@@ -5,12 +5,12 @@ ghost use Rattle.std.specs.List.{find};
 ghost use Rattle.shelf.specs.Open.{is_named};
 ghost use Rattle.delivery_core.specs.Records.{begun, finish_reply, finish_after, finished_row};
 
-use shelf::{Named, Open};
 use cdni_base::Moment;
 use cdni_log::RowList;
 use history::Admission;
 use listing::ReservedList;
 use rows::Row;
+use shelf::{Named, Open};
 use std::alloc::{AllocError, Global};
 use std::marker::Model;
 

@@ -6,11 +6,11 @@ ghost use Rattle.shelf.specs.Open.{is_named, unnamed};
 ghost use Rattle.delivery_core.specs.Refreshes.{AreBetween, begun, end_reply, first_noted, least_place, metadata_of, noted, noted_of, with_since, selects_metadata};
 
 use crate::installed::is_hit;
-use shelf::{Named, Open};
 use cdni_base::{Key, Moment};
 use journal::Journal;
 use listing::Listing;
 use rows::Row;
+use shelf::{Named, Open};
 use std::alloc::{AllocError, Global};
 use std::marker::Model;
 use trigger_command::Selection;

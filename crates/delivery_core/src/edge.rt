@@ -471,6 +471,14 @@ impl Edge {
         Ok(())
     }
 
+    /// What starts have taken back leaves memory at once, and not when a fetch is next kept. It takes no memory. Nothing of
+    /// what is seen changes.
+    pub fn sweep(&mut self)
+        ensures { self.new ≡ self.old }
+    {
+        self.shelf.sweep();
+    }
+
     /// Whether a trigger that would fetch this URL skips it: since no valid metadata is installed, no HostMatch matches,
     /// an object that must be enforced is not understood, or no source can be asked.
     ///

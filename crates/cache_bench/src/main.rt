@@ -34,6 +34,7 @@ fn object_of(alloc: Global, number: u32, bytes: &[u8]) -> anyhow::Result<Object>
         ccid: None,
         kind,
         body: Body::of(alloc, bytes)?,
+        begun: 0,
     })
 }
 

@@ -7,7 +7,7 @@ use Rattle.std.proofs.lemmas.Option.{get_or_from_slice_get, none-some, slice_get
 use Rattle.cdni_base.specs.Key.{KeyParts}
 use Rattle.trigger_command.specs.Selection.{hits_metadata}
 use Rattle.delivery_core.specs.Refreshes.{AreBetween, Refreshing, RefreshesView, first_noted, least_place, with_since, with_starts}
-use Rattle.delivery_core.specs.declared.open.Open.{Open}
+use Rattle.shelf.specs.declared.open.Open.{Open}
 use Rattle.delivery_core.specs.declared.refreshes.Noted.{Noted}
 use Rattle.delivery_core.specs.declared.refreshes.Placed.{Placed}
 

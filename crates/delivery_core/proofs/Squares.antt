@@ -41,19 +41,19 @@ use Rattle.history.specs.declared.begun.Admission.{Admission}
 use Rattle.history.specs.declared.begun.Fetching.{Fetching}
 use Rattle.history.specs.declared.reply.Reply.{Reply}
 use Rattle.history.specs.declared.reply.Reply.TheVariants as reply
-use Rattle.delivery_core.proofs.ListLemmas.{find-map, filter-map, filter_same}
+use Rattle.shelf.proofs.ListLemmas.{find-map, filter-map, filter_same}
 use Rattle.delivery_core.specs.Edge.{EdgeView, admit_after, admit_after_by, admit_reply, admit_reply_by, allowed_by, begin_after, decided, decision_of, entered, entered_reply, fetch_end_after, fetch_end_reply, finish_after, finish_reply, fresh_reply, index_of, install_after, install_reply, invalid_of, newer, newer_than, next_after, next_by, next_due, plan_after, plan_after_by, plan_reply, refresh_end_after, refresh_end_reply, skips, sourced, start_after, with_flight, without_refresh}
 use Rattle.delivery_core.specs.Installed.{Seen, invalid_by, invalidated}
-use Rattle.delivery_core.specs.Open.{is_named, unnamed}
+use Rattle.shelf.specs.Open.{is_named, unnamed}
 use Rattle.delivery_core.specs.Refreshes.{Refreshing, first_noted, metadata_of, noted_of, selects_metadata, with_starts}
-use Rattle.delivery_core.specs.Shelf.{struck}
+use Rattle.shelf.specs.KeptShelf.{struck}
 use Rattle.delivery_core.specs.Traces.{IsPlaced, edge_of, fetch_ended, finished, flight, is_noted, note_of, noted_since, refresh_ended, refreshing, reply_of, row_in, seen, unplaced}
 use Rattle.delivery_core.specs.declared.decision.Decision.{Decision}
 use Rattle.delivery_core.specs.declared.decision.Decision.TheVariants as decision
-use Rattle.delivery_core.specs.declared.open.Open.{Open}
+use Rattle.shelf.specs.declared.open.Open.{Open}
 use Rattle.delivery_core.specs.declared.refreshes.Noted.{Noted}
 use Rattle.delivery_core.specs.declared.results.Planned.{Planned}
-use Rattle.delivery_core.specs.declared.shelf.Flight.{Flight}
+use Rattle.shelf.specs.declared.kept_shelf.Flight.{Flight}
 use Rattle.delivery_core.specs.declared.results.Began.TheVariants as began
 
 pair_is : {A B : Type 0} {a a' : A} {b b' : B} → a ≡ a' → b ≡ b' → ◌≡◌ {A = A × B} (a, b) (a', b')

@@ -1,5 +1,5 @@
 -- The side of the core that delivers, as its calls see it: what a history leaves of it, without positions.
-use Rattle.std.specs.Prelude.{ℕ, ◌+◌, ◌^◌, ◌-◌, Bool, true, false, min, nat_lt, ◌==◌, List, [], ◌∷◌, ◌++◌, length, map, None, Some, if◌then◌else◌}
+use Rattle.std.specs.Prelude.{ℕ, ◌+◌, ◌^◌, ◌-◌, Bool, true, false, min, nat_lt, ◌==◌, List, [], ◌∷◌, ◌++◌, length, map, None, Some, if◌then◌else◌, ◌≡◌, is_some}
 use Rattle.std.specs.Option.{option_and_then, option_map}
 use Rattle.std.specs.declared.option.Option.{Option}
 use Rattle.cdni_base.specs.Limits.{Bounds}
@@ -24,12 +24,12 @@ use Rattle.history.specs.World.{Kept}
 use Rattle.history.specs.declared.begun.Admission.{Admission}
 use Rattle.history.specs.declared.begun.Fetching.{Fetching}
 use Rattle.delivery_core.specs.Installed.{Seen, invalidated}
-use Rattle.delivery_core.specs.Open.{unnamed}
+use Rattle.shelf.specs.Open.{unnamed}
 use Rattle.delivery_core.specs.Refreshes.{Refreshing, first_noted, noted_of, with_starts}
-use Rattle.delivery_core.specs.Shelf.{is_gained, brought, struck, unhit}
+use Rattle.shelf.specs.KeptShelf.{is_gained, brought, struck, unhit}
 use Rattle.delivery_core.specs.declared.decision.Decision.{Decision}
 use Rattle.delivery_core.specs.declared.decision.Decision.TheVariants as decision
-use Rattle.delivery_core.specs.declared.open.Open.{Open}
+use Rattle.shelf.specs.declared.open.Open.{Open}
 use Rattle.delivery_core.specs.declared.results.Admitted.{Admitted}
 use Rattle.delivery_core.specs.declared.results.Admitted.TheVariants as admitted
 use Rattle.delivery_core.specs.declared.results.Began.{Began}
@@ -37,7 +37,7 @@ use Rattle.delivery_core.specs.declared.results.Began.TheVariants as began
 use Rattle.delivery_core.specs.declared.results.Planned.{Planned}
 use Rattle.delivery_core.specs.declared.results.RefreshEnded.{RefreshEnded}
 use Rattle.delivery_core.specs.declared.results.RefreshEnded.TheVariants as ended_as
-use Rattle.delivery_core.specs.declared.shelf.Flight.{Flight}
+use Rattle.shelf.specs.declared.kept_shelf.Flight.{Flight}
 
 pub record EdgeView : Type 0 where
   pub limits : Bounds
@@ -80,6 +80,12 @@ decided index kept target None = allowed kept (objects_of index target) target
 abbrev pub decision_of : EdgeView → Asked → Place → ℕ → Decision
 decision_of v asked place moment = decided (index_of v) v.kept asked.target
     (forbidden (index_of v) (invalid_of v) asked place moment)
+
+-- a hit is of a key under which something is kept, and a miss of another
+abbrev pub IsOfKept : List Kept → Decision → Type 0
+IsOfKept kept (decision.Deny rule) = Unit {0}
+IsOfKept kept (decision.Hit key ccid found) = is_some (kept_of key kept) ≡ true
+IsOfKept kept (decision.Miss key ccid plan) = kept_of key kept ≡ None
 
 -- how many deliveries are open and rows unfiled, together
 abbrev pub pending : EdgeView → ℕ

@@ -1,10 +1,7 @@
 pub mod Decision
-pub mod Open
-pub mod OpenEquality
 pub mod Records
 pub mod Installed
 pub mod Refreshes
-pub mod Shelf
 pub mod Edge
 pub mod Traces
 pub mod OpenCount

@@ -5,8 +5,8 @@ use Rattle.std.specs.declared.option.Option.{Option}
 use Rattle.cdni_log.specs.declared.row.Row.{Row}
 use Rattle.history.specs.After.{row_of}
 use Rattle.history.specs.declared.begun.Admission.{Admission}
-use Rattle.delivery_core.specs.Open.{unnamed}
-use Rattle.delivery_core.specs.declared.open.Open.{Open}
+use Rattle.shelf.specs.Open.{unnamed}
+use Rattle.shelf.specs.declared.open.Open.{Open}
 use Rattle.delivery_core.specs.declared.records.Ending.{Ending}
 
 -- the open deliveries, in order, how many were begun, the rows that no log file has, in order, how many there ever were, and

@@ -6,7 +6,7 @@ use Rattle.std.specs.declared.option.Option.{Option}
 use Rattle.cdni_base.specs.Key.{KeyParts}
 use Rattle.trigger_command.specs.Selection.{hits_metadata}
 use Rattle.trigger_command.specs.declared.selection.Selection.{Selection}
-use Rattle.delivery_core.specs.declared.open.Open.{Open}
+use Rattle.shelf.specs.declared.open.Open.{Open}
 use Rattle.delivery_core.specs.declared.refreshes.Ended.{Ended}
 use Rattle.delivery_core.specs.declared.refreshes.Noted.{Noted}
 use Rattle.delivery_core.specs.declared.refreshes.Placed.{Placed}

@@ -12,9 +12,9 @@ use Rattle.history.specs.declared.reply.Reply.TheVariants as reply
 use Rattle.delivery_core.specs.Edge.{EdgeView}
 use Rattle.delivery_core.specs.Installed.{Seen}
 use Rattle.delivery_core.specs.Refreshes.{Refreshing, metadata_of, selects_metadata}
-use Rattle.delivery_core.specs.declared.open.Open.{Open}
+use Rattle.shelf.specs.declared.open.Open.{Open}
 use Rattle.delivery_core.specs.declared.refreshes.Noted.{Noted}
-use Rattle.delivery_core.specs.declared.shelf.Flight.{Flight}
+use Rattle.shelf.specs.declared.kept_shelf.Flight.{Flight}
 use Rattle.delivery_core.specs.declared.results.Admitted.{Admitted}
 use Rattle.delivery_core.specs.declared.results.Admitted.TheVariants as admitted
 use Rattle.delivery_core.specs.declared.results.RefreshEnded.{RefreshEnded}

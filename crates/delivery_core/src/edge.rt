@@ -1,11 +1,12 @@
 //! The edge: what is installed, kept and open.
 
-ghost use Rattle.std.specs.Prelude.{◌≡◌, ◌≤◌, ◌<◌, ◌^◌, ◌+◌, ◌++◌, ◌∷◌, [], Ok, IfOk, IfNone, OnErr, OnOk, OnSome, None, false, MatchOption, length, option_map};
+ghost use Rattle.std.specs.Prelude.{◌≡◌, ◌≤◌, ◌<◌, ◌^◌, ◌+◌, ◌++◌, ◌∷◌, [], Ok, IfOk, IfNone, OnErr, OnOk, OnSome, None, false, true, is_some, MatchOption, length, option_map};
 ghost use Rattle.std.specs.List.{find};
 ghost use Rattle.history.specs.After.{admission, is_secure, row_of};
+ghost use Rattle.history.specs.Kept.{kept_of};
 ghost use Rattle.metadata_objects.specs.LevelData.{index_view};
 ghost use Rattle.metadata_objects.specs.Tree.{tree_view};
-ghost use Rattle.delivery_core.specs.Open.{is_named};
+ghost use Rattle.shelf.specs.Open.{is_named};
 ghost use Rattle.delivery_core.specs.Refreshes.{end_reply};
 ghost use Rattle.delivery_core.specs.Edge.{allowed, of_collection, resources_of};
 
@@ -16,7 +17,6 @@ use crate::installed::Installed;
 use crate::records::{Ending, Records};
 use crate::refreshes::{Ended, Refreshes};
 use crate::results::{Admitted, Began, Planned, RefreshEnded};
-use crate::shelf::Shelf;
 use cdni_base::{Asked, EndpointList, Key, Limits, Moment, Protocol, Rule, Target, Text};
 use cdni_log::RowList;
 use history::{Admission, Fetching};
@@ -24,6 +24,7 @@ use inheritance::Effective;
 use location_acl::Place;
 use metadata_objects::{HostIndex, Tree};
 use object_cache::Object;
+use shelf::Shelf;
 use std::alloc::{AllocError, Global};
 use std::marker::Model;
 use trigger_command::Selection;
@@ -32,8 +33,9 @@ use verdict::plan;
 
 /// The installed metadata, what is kept of fetches, the deliveries, fetches and refreshes that are open, and the rows of
 /// finished deliveries that no log file has. It is seen as what a history leaves of these, without positions. Each call
-/// takes constant time on average, whatever is kept and open, but for what the metadata of one target takes and the objects
-/// that leave; the start of a trigger goes through what is kept and open.
+/// takes constant time on average, whatever is kept and open, but for what the metadata of one target takes, the starts of
+/// triggers that an object was not tried with, and the objects that leave; where there were starts, the first fetch after
+/// them that is kept goes through what is kept.
 #[derive(Drop)]
 pub struct Edge {
     limits: Limits,
@@ -78,11 +80,12 @@ impl Model for Edge {
     } };
 
     ghost invariant = { λ e. (e.shelf.limit ≡ e.limits.cache)
-        × (e.installations + length e.refreshes.refreshes ≤ e.refreshes.refreshed) };
+        × (e.installations + length e.refreshes.refreshes ≤ e.refreshes.refreshed)
+        × (e.shelf.starts ≡ e.refreshes.started) };
 }
 
 impl Edge {
-    ghost use Rattle.delivery_core.specs.Edge.{EdgeView, empty, index_of, invalid_of, full_count, decision_of, admit_reply, admit_after, entered_reply, entered, with_denial, with_hit, with_miss, fetch_end_reply, fetch_end_after, finish_reply, finish_after, next_due, begin_reply, begin_after, newer, install_reply, install_after, without_refresh, refresh_end_reply, refresh_end_after, start_after, skips, plan_reply, plan_after, sourced};
+    ghost use Rattle.delivery_core.specs.Edge.{EdgeView, IsOfKept, empty, index_of, invalid_of, full_count, decision_of, admit_reply, admit_after, entered_reply, entered, with_denial, with_hit, with_miss, fetch_end_reply, fetch_end_after, finish_reply, finish_after, next_due, begin_reply, begin_after, newer, install_reply, install_after, without_refresh, refresh_end_reply, refresh_end_after, start_after, skips, plan_reply, plan_after, sourced};
 
     /// An edge with nothing installed, kept or open.
     ///
@@ -193,6 +196,7 @@ impl Edge {
     ) -> Result<Admitted, AllocError>
         requires delivered { self.old.delivered ≤ 2 ^ 62 }
         requires fetched { self.old.fetched ≤ 2 ^ 62 }
+        requires kept { IsOfKept self.old.kept decision }
         ensures reply { IfOk result (λ r. r ≡ entered_reply self.old decision) }
         ensures after { OnOk result (self.new ≡ entered self.old pass what decision) }
         ensures err { OnErr result (self.new ≡ self.old) }
@@ -233,14 +237,15 @@ impl Edge {
         key: Key,
         found: Found,
     ) -> Result<Admitted, AllocError>
-        requires { self.old.delivered ≤ 2 ^ 62 }
+        requires delivered { self.old.delivered ≤ 2 ^ 62 }
+        requires kept { is_some (kept_of key self.old.kept) ≡ true }
         ensures reply { IfOk result (λ r. r
             ≡ Admitted.Hit (self.old.delivered + 1) found.fetch found.kind found.body) }
         ensures after { OnOk result (self.new ≡ with_hit self.old pass what key) }
         ensures err { OnErr result (self.new ≡ self.old) }
     {
         self.records.reserve(alloc)?;
-        self.shelf.touch(&key);
+        self.shelf.renew(alloc, &key)?;
         let delivery = self.records.begin(pass, what);
         Ok(Admitted::Hit {
             delivery,
@@ -262,6 +267,7 @@ impl Edge {
     ) -> Result<Admitted, AllocError>
         requires delivered { self.old.delivered ≤ 2 ^ 62 }
         requires fetched { self.old.fetched ≤ 2 ^ 62 }
+        requires kept { kept_of key self.old.kept ≡ None }
         ensures reply { IfOk result (λ r. r
             ≡ Admitted.Miss (self.old.delivered + 1) (self.old.fetched + 1) plan) }
         ensures after { OnOk result (self.new ≡ with_miss self.old pass (of_collection what ccid false)
@@ -271,6 +277,7 @@ impl Edge {
         self.records.reserve(alloc)?;
         let copy = copy_of(&ccid)?;
         let what = of_collection(what, copy, false);
+        self.shelf.forget(&key);
         let fetch = self.shelf.open(alloc, pass, Fetching { key, ccid })?;
         let delivery = self.records.begin(pass, what);
         Ok(Admitted::Miss {
@@ -462,6 +469,14 @@ impl Edge {
             installed.start(trigger, selection);
         }
         Ok(())
+    }
+
+    /// What starts have taken back leaves memory at once, and not when a fetch is next kept. It takes no memory. Nothing of
+    /// what is seen changes.
+    pub fn sweep(&mut self)
+        ensures { self.new ≡ self.old }
+    {
+        self.shelf.sweep();
     }
 
     /// Whether a trigger that would fetch this URL skips it: since no valid metadata is installed, no HostMatch matches,

@@ -6,14 +6,11 @@
 mod decision;
 mod edge;
 mod installed;
-mod open;
 mod records;
 mod refreshes;
 mod results;
-mod shelf;
 
 pub use edge::Edge;
-pub use open::Open;
 pub use refreshes::Noted;
 pub use results::{Admitted, Began, Planned, RefreshEnded};
-pub use shelf::Flight;
+pub use shelf::{Flight, Open};

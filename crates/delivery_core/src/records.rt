@@ -2,15 +2,15 @@
 
 ghost use Rattle.std.specs.Prelude.{◌≡◌, ◌+◌, ◌^◌, ◌<◌, ◌≤◌, [], OnOk, OnErr, max, length};
 ghost use Rattle.std.specs.List.{find};
-ghost use Rattle.delivery_core.specs.Open.{is_named};
+ghost use Rattle.shelf.specs.Open.{is_named};
 ghost use Rattle.delivery_core.specs.Records.{begun, finish_reply, finish_after, finished_row};
 
-use crate::open::{Named, Open};
 use cdni_base::Moment;
 use cdni_log::RowList;
 use history::Admission;
 use listing::ReservedList;
 use rows::Row;
+use shelf::{Named, Open};
 use std::alloc::{AllocError, Global};
 use std::marker::Model;
 
@@ -41,7 +41,7 @@ pub(crate) struct Records {
 impl Model for Records {
     ghost use Rattle.std.specs.Prelude.{◌+◌, ◌≤◌, length};
     ghost use Rattle.delivery_core.specs.Records.{RecordsView};
-    ghost use Rattle.delivery_core.specs.Open.{AreUpTo};
+    ghost use Rattle.shelf.specs.Open.{AreUpTo};
 
     ghost Value = { RecordsView };
 

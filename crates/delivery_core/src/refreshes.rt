@@ -2,15 +2,15 @@
 
 ghost use Rattle.std.specs.Prelude.{◌≡◌, ◌+◌, ◌^◌, ◌<◌, ◌≤◌, [], drop, length, map, option_to_list, IfOk, IfNone, OnOk, OnErr, OnSome};
 ghost use Rattle.std.specs.List.{find};
-ghost use Rattle.delivery_core.specs.Open.{is_named, unnamed};
+ghost use Rattle.shelf.specs.Open.{is_named, unnamed};
 ghost use Rattle.delivery_core.specs.Refreshes.{AreBetween, begun, end_reply, first_noted, least_place, metadata_of, noted, noted_of, with_since, selects_metadata};
 
 use crate::installed::is_hit;
-use crate::open::{Named, Open};
 use cdni_base::{Key, Moment};
 use journal::Journal;
 use listing::Listing;
 use rows::Row;
+use shelf::{Named, Open};
 use std::alloc::{AllocError, Global};
 use std::marker::Model;
 use trigger_command::Selection;
@@ -51,7 +51,7 @@ pub(crate) struct Refreshes {
 impl Model for Refreshes {
     ghost use Rattle.std.specs.Prelude.{◌+◌, ◌≤◌, length, map};
     ghost use Rattle.delivery_core.specs.Refreshes.{AreBetween, RefreshesView, with_since};
-    ghost use Rattle.delivery_core.specs.Open.{AreUpTo};
+    ghost use Rattle.shelf.specs.Open.{AreUpTo};
 
     ghost Value = { RefreshesView };
 

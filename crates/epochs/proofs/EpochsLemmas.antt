@@ -62,6 +62,13 @@ none_after low high [] key ccid so = refl
 none_after low high (start ∷ starts) key ccid so =
     ap (λ first. first || is_stale starts high key ccid) (never high start key ccid (top start.epoch high starts so.1)) ∙ none_after start.epoch high starts key ccid so.1
 
+-- nor after a later epoch
+pub none_later : (low high begun : ℕ) (starts : List Start) (key : KeyParts) (ccid : Option (List ℕ)) → high ≤ begun → AreRising low high starts → is_stale starts begun key ccid ≡ false
+none_later low high begun [] key ccid later so = refl
+none_later low high begun (start ∷ starts) key ccid later so =
+    let before = top start.epoch high starts so.1 in
+    ap (λ first. first || is_stale starts begun key ccid) (never begun start key ccid (omega (arith, before, later))) ∙ none_later start.epoch high begun starts key ccid later so.1
+
 -- ---- forgetting
 
 pub front_goes : (oldest : ℕ) (starts rest : List Start) → is_front_up_to oldest starts ≡ true → (start : Start) → starts ≡ start ∷ rest → behind_front oldest rest ≡ behind_front oldest starts

@@ -146,6 +146,9 @@ impl Epochs {
         ensures relation { IsTrue result ↔ IsStale self.now.known.starts begun key.now
             (option_map (λ text. text.now) ccid.entry) }
     {
+        if begun >= self.newest {
+            return false;
+        }
         self.chains
             .is_hit_since(self.newest, self.unchained, begun, key, ccid)
     }

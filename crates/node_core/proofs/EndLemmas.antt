@@ -3,12 +3,12 @@ use Rattle.std.proofs.Common.{◌≡◌, ℕ, ◌<◌, ◌||◌, Bool, true, fal
 use Rattle.std.specs.List.{filter, find, list_any}
 use Rattle.std.specs.Option.{is_some}
 use Rattle.control_core.specs.Control.{ControlView}
-use Rattle.delivery_core.proofs.ListLemmas.{filter_shorter}
+use Rattle.shelf.proofs.ListLemmas.{filter_shorter}
 use Rattle.delivery_core.specs.Edge.{EdgeView, fetch_end_after, fetch_end_reply, finish_after, finish_reply, fresh_reply, install_after, install_reply, newer, refresh_end_after, refresh_end_reply}
-use Rattle.delivery_core.specs.Open.{is_named, unnamed}
+use Rattle.shelf.specs.Open.{is_named, unnamed}
 use Rattle.delivery_core.specs.OpenCount.{open_count}
 use Rattle.delivery_core.specs.Traces.{fetch_ended, finished, refresh_ended, reply_of}
-use Rattle.delivery_core.specs.declared.open.Open.{Open}
+use Rattle.shelf.specs.declared.open.Open.{Open}
 use Rattle.delivery_core.specs.declared.results.Admitted.{Admitted}
 use Rattle.delivery_core.specs.declared.results.Admitted.TheVariants as admitted
 use Rattle.delivery_core.specs.declared.results.RefreshEnded.{RefreshEnded}
@@ -16,7 +16,7 @@ use Rattle.delivery_core.specs.declared.results.RefreshEnded.TheVariants as ende
 use Rattle.cdni_log.specs.declared.row.Row.{Row}
 use Rattle.history.specs.declared.begun.Admission.{Admission}
 use Rattle.delivery_core.specs.Refreshes.{Refreshing, first_noted}
-use Rattle.delivery_core.specs.declared.shelf.Flight.{Flight}
+use Rattle.shelf.specs.declared.kept_shelf.Flight.{Flight}
 use Rattle.history.specs.declared.reply.Reply.{Reply}
 use Rattle.metadata_objects.specs.Tree.{TreeData}
 use Rattle.node_core.proofs.StateLemmas.{state}

@@ -9,7 +9,7 @@ use Rattle.cdni_log.specs.declared.row.FileHead.{FileHead}
 use Rattle.cdni_log.specs.declared.row.Row.{Row}
 use Rattle.control_core.specs.Control.{ControlView, file_after, file_reply, has_number, text_at, with_file}
 use Rattle.control_core.specs.declared.control.LogFile.{LogFile}
-use Rattle.delivery_core.proofs.ListLemmas.{find-map, filter-map}
+use Rattle.shelf.proofs.ListLemmas.{find-map, filter-map}
 use Rattle.delivery_core.proofs.Squares as squares
 use Rattle.delivery_core.specs.Edge.{EdgeView}
 use Rattle.delivery_core.specs.Traces.{row_in}

@@ -3,9 +3,9 @@ use Rattle.std.proofs.Common.{◌≡◌, ℕ, ◌+◌, ◌≤◌, ◌==◌, ◌&
 use Rattle.std.specs.List.{list_any}
 use Rattle.std.proofs.lemmas.List.{map-append}
 use Rattle.delivery_core.specs.Edge.{EdgeView}
-use Rattle.delivery_core.specs.Open.{is_named}
+use Rattle.shelf.specs.Open.{is_named}
 use Rattle.delivery_core.specs.Traces.{flight, refreshing, unplaced}
-use Rattle.delivery_core.specs.declared.open.Open.{Open}
+use Rattle.shelf.specs.declared.open.Open.{Open}
 use Rattle.history.specs.Event.{Entry, Event, History, Admit, FetchEnd, Finish, RefreshBegin, RefreshEnd, Command, Advance, Cancel, Delete, ReadStatus, Lists, Cut, LogFile, ListLogs, DropLog}
 use Rattle.history.specs.History.{world_of}
 use Rattle.history.specs.After.{begun_delivery, begun_fetch, begun_refresh}

@@ -10,11 +10,11 @@ use Rattle.delivery_core.proofs.Growth.{admit_grows}
 use Rattle.delivery_core.proofs.PlacedLemmas.{placed}
 use Rattle.delivery_core.proofs.Squares as squares
 use Rattle.delivery_core.specs.Edge.{EdgeView, admit_after, admit_reply, begin_after, empty, fetch_end_after, fetch_end_reply, finish_after, finish_reply, fresh_reply, install_after, install_reply, newer, next_due, refresh_end_after, refresh_end_reply}
-use Rattle.delivery_core.specs.Open.{is_named, unnamed}
+use Rattle.shelf.specs.Open.{is_named, unnamed}
 use Rattle.delivery_core.specs.Refreshes.{Refreshing, first_noted}
 use Rattle.delivery_core.specs.Traces.{edge_of, fetch_ended, finished, refresh_ended, reply_of}
-use Rattle.delivery_core.specs.declared.open.Open.{Open}
-use Rattle.delivery_core.specs.declared.shelf.Flight.{Flight}
+use Rattle.shelf.specs.declared.open.Open.{Open}
+use Rattle.shelf.specs.declared.kept_shelf.Flight.{Flight}
 use Rattle.cdni_log.specs.declared.row.Row.{Row}
 use Rattle.history.specs.declared.begun.Admission.{Admission}
 use Rattle.delivery_core.specs.declared.results.Admitted.{Admitted}

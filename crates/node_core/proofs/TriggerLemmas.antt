@@ -11,7 +11,7 @@ use Rattle.delivery_core.proofs.Squares as squares
 use Rattle.delivery_core.specs.Edge.{EdgeView, begin_after, plan_after, plan_after_by, plan_reply, skips, sourced, start_after}
 use Rattle.delivery_core.specs.OpenCount.{open_count}
 use Rattle.delivery_core.specs.Refreshes.{noted_of, with_starts}
-use Rattle.delivery_core.specs.Shelf.{struck}
+use Rattle.shelf.specs.KeptShelf.{struck}
 use Rattle.delivery_core.specs.Traces.{edge_of}
 use Rattle.delivery_core.specs.declared.results.Began.TheVariants as began
 use Rattle.delivery_core.specs.declared.results.Planned.{Planned}

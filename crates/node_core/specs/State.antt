@@ -4,7 +4,7 @@ use Rattle.std.specs.List.{list_any}
 use Rattle.control_core.specs.Control.{ControlView}
 use Rattle.delivery_core.specs.Edge.{EdgeView}
 use Rattle.delivery_core.specs.Traces.{edge_of}
-use Rattle.delivery_core.specs.Open.{is_named}
+use Rattle.shelf.specs.Open.{is_named}
 use Rattle.delivery_core.specs.OpenCount.{open_count}
 use Rattle.history.specs.Event.{Entry, Event, History, FetchEnd, Finish, RefreshEnd}
 use Rattle.history.specs.History.{reply_to, world_of}

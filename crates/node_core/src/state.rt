@@ -3,7 +3,7 @@
 ghost use Rattle.std.specs.Prelude.{◌≡◌, ◌≤◌, ◌+◌, ℕ, [], true, false, IfOk, OnErr};
 ghost use Rattle.std.specs.List.{list_any};
 ghost use Rattle.std.specs.Option.{option_map};
-ghost use Rattle.delivery_core.specs.Open.{is_named};
+ghost use Rattle.shelf.specs.Open.{is_named};
 ghost use Rattle.delivery_core.specs.Traces.{reply_of, fetch_ended, finished, refresh_ended};
 ghost use Rattle.history.specs.After.{is_fetched, opened_by};
 ghost use Rattle.history.specs.Event.{History, event_of, Admit, FetchEnd, Finish, RefreshBegin, RefreshEnd, Cut, DropLog, ListLogs, LogFile};

@@ -1,16 +1,14 @@
 -- What the kept objects are after each call, and their lengths together.
-use Rattle.std.proofs.Common.{◌≡◌, ℕ, ◌+◌, ◌-◌, ◌<◌, ◌≤◌, ◌⊎◌, inl, inr, Bool, true, false, cond, not, nat_le, List, [], ◌∷◌, ◌++◌, Option, None, Some, filter, find, option_to_list, refl, sym, ap, ◌∙◌, subst, append_assoc, arith}
-use Rattle.std.proofs.lemmas.List.Sums.{sum_by-cons, sum_by_push}
+use Rattle.std.proofs.Common.{◌≡◌, ℕ, zero, suc, remove, slice_get, ◌+◌, ◌-◌, ◌<◌, ◌≤◌, ◌⊎◌, inl, inr, Bool, true, false, cond, not, nat_le, List, [], ◌∷◌, ◌++◌, Option, None, Some, filter, find, map, option_to_list, refl, sym, ap, ◌∙◌, subst, append_assoc, arith}
+use Rattle.std.proofs.lemmas.List.Sums.{sum_by-append, sum_by-cons, sum_by_push, sum_by-remove}
 use Rattle.std.proofs.lemmas.Bool.{cases_lt, le-leb, leb-true, lt-leb, and_parts}
 use Rattle.std.proofs.lemmas.List.{append-nil}
-use Rattle.std.proofs.lemmas.Option.{none-some}
+use Rattle.std.proofs.lemmas.Option.{none-some, get_or_from_slice_get, slice_get_within}
 use Rattle.cdni_base.specs.Key.{KeyParts}
 use Rattle.cdni_base.specs.KeyEqualityLemmas.{key_decides}
 use Rattle.rows.specs.Row.{moved}
-use Rattle.trigger_command.specs.Selection.{hits}
-use Rattle.trigger_command.specs.declared.selection.Selection.{Selection}
 use Rattle.object_cache.specs.declared.object.Object.{Object}
-use Rattle.object_cache.specs.ObjectTable.{AreApart, Kept, evicted, filled, is_filled, is_of, kept_of, length_of, others, total, unhit}
+use Rattle.object_cache.specs.ObjectTable.{AreApart, Kept, evicted, filled, is_filled, is_of, kept_of, length_of, others, renewed, renewed_one, total}
 
 -- a table with these
 abbrev pub kept : ℕ → List Object → ℕ → Kept
@@ -103,7 +101,7 @@ module _ (test : Object → Bool) where
       left_by true h rest = h
       left_by false h rest = rest h
 
-  none_right : (a b : List Object) → find test (a ++ b) ≡ None → find test b ≡ None
+  pub none_right : (a b : List Object) → find test (a ++ b) ≡ None → find test b ≡ None
   none_right [] b h = h
   none_right (x ∷ a) b h = none_right a b (none_rest test (test x) x (find test (a ++ b)) h)
 
@@ -168,12 +166,54 @@ apart_filled most xs o h =
     apart_push [] (evicted most (others o.key xs)) o (apart_evicted most [] (others o.key xs) (apart_filter (λ p. not (is_of o.key p)) [] xs h))
     (none_evicted (is_of o.key) most (others o.key xs) (none_other (is_of o.key) xs))
 
--- where the first object leaves a list
-pub apart_next : (a xs ys : List Object) (x : Object) → ys ≡ x ∷ xs → AreApart a ys → AreApart a xs
-apart_next a xs ys x is h = apart_rest a xs x (subst (AreApart a) is h)
+-- the object at an index leaves
+pub apart_remove : (a xs : List Object) (i : ℕ) → AreApart a xs → AreApart a (remove xs i)
+apart_remove a [] zero h = tt
+apart_remove a [] (suc i) h = tt
+apart_remove a (x ∷ xs) zero h = apart_rest a xs x h
+apart_remove a (x ∷ xs) (suc i) h = (h.0, apart_remove (a ++ x ∷ []) xs i h.1)
 
--- and a selection hits it
-pub unhit_next : (selection : Selection) (xs ys : List Object) (x : Object) → ys ≡ x ∷ xs → hits selection x.key x.ccid ≡ true
-    → unhit selection ys ≡ unhit selection xs
-unhit_next selection xs ys x is hit =
-    ap (unhit selection) is ∙ ap (λ (t : Bool). cond (not t) (x ∷ unhit selection xs) (unhit selection xs)) hit
+pub total_remove : (xs : List Object) (i : ℕ) (o : Object) → slice_get xs i ≡ Some o → total (remove xs i) + length_of o ≡ total xs
+total_remove xs i o is =
+    ap (λ (x : Object). total (remove xs i) + length_of x) (sym (get_or_from_slice_get xs i o o is))
+    ∙ sum_by-remove length_of xs i o (slice_get_within xs i o is)
+
+-- where an object has the key, none behind it has
+pub apart_behind : (key : KeyParts) (a xs : List Object) → (kept_of key a ≡ None → ⊥) → AreApart a xs → kept_of key xs ≡ None
+apart_behind key a [] some h = refl
+apart_behind key a (x ∷ xs) some h =
+    let no : is_of key x ≡ false = not_both (is_of key x) (λ is. some (subst (λ k. kept_of k a ≡ None) (sym ((key_decides key x.key).0 is)) h.0)) in
+    ap (λ (b : Bool). cond b (Some x) (kept_of key xs)) no
+    ∙ apart_behind key (a ++ x ∷ []) xs (λ none. some (none_left (is_of key) a (x ∷ []) none)) h.1
+  where
+    not_both : (b : Bool) → (b ≡ true → ⊥) → b ≡ false
+    not_both true h = absurd (h refl)
+    not_both false h = refl
+
+-- the key's object at the end with another last start
+module _ (key : KeyParts) (begun : ℕ) (xs : List Object) where
+  pub renewed_none : kept_of key xs ≡ None → others key xs ≡ xs → renewed key begun xs ≡ xs
+  renewed_none none all = ap (λ o. others key xs ++ map (renewed_one begun) (option_to_list o)) none ∙ append-nil (others key xs) ∙ all
+
+  pub renewed_some : (o : Object) → kept_of key xs ≡ Some o → renewed key begun xs ≡ others key xs ++ renewed_one begun o ∷ []
+  renewed_some o is = ap (λ found. others key xs ++ map (renewed_one begun) (option_to_list found)) is
+
+  pub none_renewed : (o : Object) → kept_of key xs ≡ Some o → kept_of o.key (others key xs) ≡ None
+  none_renewed o is = subst (λ k. kept_of k (others key xs) ≡ None) ((key_decides key o.key).0 (found_passes (is_of key) xs o is)) (none_other (is_of key) xs)
+
+  pub apart_renewed : AreApart [] xs → AreApart [] (renewed key begun xs)
+  apart_renewed h = renewed_by (kept_of key xs) refl
+    where
+      renewed_by : (found : Option Object) → kept_of key xs ≡ found → AreApart [] (others key xs ++ map (renewed_one begun) (option_to_list found))
+      renewed_by None is = rw append-nil (apart_filter (λ o. not (is_of key o)) [] xs h)
+      renewed_by (Some o) is = apart_push [] (others key xs) (renewed_one begun o) (apart_filter (λ p. not (is_of key p)) [] xs h) (none_renewed o is)
+
+-- the lengths, where an object was taken out and is back at the end
+pub total_renewed : (before behind old rest : List Object) (o p : Object) → old ≡ before ++ o ∷ behind → rest ≡ before ++ behind → length_of p ≡ length_of o
+    → total (rest ++ p ∷ []) ≡ total old
+total_renewed before behind old rest o p was is same =
+    let a = sum_by_push length_of rest p in
+    let b = sum_by-append length_of before (o ∷ behind) in
+    let c = sum_by-append length_of before behind in
+    let d = sum_by-cons length_of o behind in
+    omega (arith, a, b, c, d, same, ap total was, ap total is)

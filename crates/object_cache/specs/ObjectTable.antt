@@ -1,9 +1,7 @@
 -- The objects that a node keeps of what its fetches brought, and which of them stay where there are too many bytes.
-use Rattle.std.specs.Prelude.{◌≡◌, ℕ, Bool, false, not, nat_lt, nat_le, ◌&&◌, if◌then◌else◌, List, [], ◌∷◌, ◌++◌, None, Some, length, filter, find, sum_by}
+use Rattle.std.specs.Prelude.{◌≡◌, ℕ, Bool, false, not, nat_lt, nat_le, ◌&&◌, if◌then◌else◌, List, [], ◌∷◌, ◌++◌, None, Some, length, filter, find, map, option_to_list, sum_by}
 use Rattle.std.specs.declared.option.Option.{Option}
 use Rattle.cdni_base.specs.Key.{KeyParts, same_key}
-use Rattle.trigger_command.specs.Selection.{hits}
-use Rattle.trigger_command.specs.declared.selection.Selection.{Selection}
 use Rattle.object_cache.specs.declared.object.Object.{Object}
 
 -- the most bytes that are kept, the objects, the least recently used first, and how many more can be filled in without
@@ -33,9 +31,13 @@ kept_of key objects = find (is_of key) objects
 abbrev pub others : KeyParts → List Object → List Object
 others key objects = filter (λ object. not (is_of key object)) objects
 
--- those that a selection does not hit (RFC 8007, section 5.2.1)
-abbrev pub unhit : Selection → List Object → List Object
-unhit selection objects = filter (λ object. not (hits selection object.key object.ccid)) objects
+-- no start up to this one need be tried on the object
+abbrev pub renewed_one : ℕ → Object → Object
+renewed_one begun object = record object { begun = begun }
+
+-- the key's object is so, and goes to the end
+abbrev pub renewed : KeyParts → ℕ → List Object → List Object
+renewed key begun objects = others key objects ++ map (renewed_one begun) (option_to_list (kept_of key objects))
 
 -- no object has the key of one before it, nor of one of the first list, which stands before them all
 abbrev pub AreApart : List Object → List Object → Type 0

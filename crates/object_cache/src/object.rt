@@ -23,6 +23,8 @@ pub struct Object {
     pub kind: TypeName,
     /// Its bytes.
     pub body: Body,
+    /// The last start of a trigger that need not be tried on it: the last one when its fetch was opened.
+    pub begun: u64,
 }
 
 impl PartialEq for Object {

@@ -1,21 +1,20 @@
 //! The table of kept objects.
 
-ghost use Rattle.std.specs.Prelude.{◌≡◌, ◌+◌, ◌-◌, ◌<◌, ◌≤◌, ◌^◌, [], ◌∷◌, ◌++◌, Ok, OnOk, OnErr, IfOk, length};
+ghost use Rattle.std.specs.Prelude.{◌≡◌, ◌+◌, ◌-◌, ◌<◌, ◌≤◌, ◌^◌, [], ◌∷◌, ◌++◌, Ok, Some, OnOk, OnErr, length, remove, slice_get};
 ghost use Rattle.std.specs.Option.{option_map};
 ghost use Rattle.rows.specs.Row.{moved};
-ghost use Rattle.object_cache.specs.ObjectTable.{AreApart, evicted, filled, is_filled, is_newer, is_of, kept_of, length_of, others, total, unhit};
+ghost use Rattle.object_cache.specs.ObjectTable.{AreApart, evicted, filled, is_filled, is_newer, is_of, kept_of, length_of, others, renewed, total};
 
 use crate::object::{Object, Wanted};
 use cdni_base::{Body, Key};
 use rows::Row;
 use std::alloc::{AllocError, Global};
 use std::marker::Model;
-use trigger_command::Selection;
 
 /// The objects that are kept, the least recently used first. It is seen as the most bytes that they may have together,
 /// the list of them, and how many more can be filled in without memory. Each call takes constant time on average,
-/// whatever the number of objects, but for `drop_matching`, which goes through them all; of those that leave, each counts
-/// for itself.
+/// whatever the number of objects, but for `close_up`, which goes through them all; of those that leave, each counts for
+/// itself.
 #[derive(Drop)]
 pub struct ObjectTable {
     row: Row<Object>,
@@ -70,32 +69,79 @@ impl ObjectTable {
 
     /// The object that is kept under the key.
     pub fn find(&self, key: &Key) -> Option<&Object>
-        ensures { option_map (λ o. o.now) result ≡ kept_of key.now self.now.objects }
+        ensures found { option_map (λ o. o.now) result ≡ kept_of key.now self.now.objects }
+        ensures apart { AreApart [] self.now.objects }
     {
         self.row.find(Wanted { key })
     }
 
     /// Moves the object that is kept under the key to the end, as the most recently used. It takes no memory.
     pub fn touch(&mut self, key: &Key)
-        ensures { self.new ≡ record self.old { objects = moved (is_of key.now) self.old.objects } }
+        ensures after { self.new ≡ record self.old { objects = moved (is_of key.now) self.old.objects } }
+        ensures apart { AreApart [] self.old.objects }
     {
         self.row.touch(Wanted { key });
     }
 
-    /// Takes out each object that the selection hits by its key or its collection (RFC 8007, section 5.2.1). The others
-    /// keep their order, and as many can be filled in without memory as before. It goes through all objects, and needs
-    /// memory for the places of those that stay, but copies none.
+    /// Moves the object that is kept under the key to the end, as `touch` does, and notes that the starts up to this one
+    /// need not be tried on it.
     ///
     /// # Errors
     /// Want of memory. The table is then as before.
-    pub fn drop_matching(&mut self, alloc: Global, selection: &Selection) -> Result<(), AllocError>
-        ensures after { OnOk result (self.new ≡ record self.old { objects = unhit selection.now self.old.objects }) }
+    pub fn renew(&mut self, alloc: Global, key: &Key, begun: u64) -> Result<(), AllocError>
+        ensures after { OnOk result (self.new ≡ record self.old { objects = renewed key.now begun self.old.objects }) }
+        ensures apart { AreApart [] self.old.objects }
         ensures refused { OnErr result (self.new ≡ self.old) }
     {
-        let mut rest = empty_row(alloc, &self.row)?;
-        move_unhit(&mut self.row, &mut rest, &mut self.sum, selection);
-        self.row = rest;
+        let Some(spare) = self.row.spare().checked_add(1) else {
+            return Err(AllocError);
+        };
+        self.row.reserve(alloc, spare)?;
+        renew(&mut self.row, key, begun);
         Ok(())
+    }
+
+    /// Takes out the object that is kept under the key. It takes no memory.
+    pub fn take(&mut self, key: &Key)
+        ensures after { self.new ≡ record self.old { objects = others key.now self.old.objects } }
+        ensures apart { AreApart [] self.old.objects }
+    {
+        take_key(&mut self.row, &mut self.sum, key);
+    }
+
+    /// How many objects are kept.
+    pub fn len(&self) -> usize
+        ensures { result ≡ length self.now.objects }
+    {
+        self.row.len()
+    }
+
+    /// Closes up the places in which the objects are kept, so that `at` and `take_out` take constant time where objects
+    /// are taken out from the last to the first. It goes through all objects.
+    pub fn close_up(&mut self)
+        ensures { self.new ≡ self.old }
+    {
+        self.row.close_up();
+    }
+
+    /// The object at an index, in constant time where objects are taken out as `close_up` says.
+    pub fn at(&self, i: usize) -> &Object
+        requires { i < length self.now.objects }
+        ensures { slice_get self.now.objects i ≡ Some result.now }
+    {
+        self.row.at(i)
+    }
+
+    /// Takes out the object at an index, and answers it. The others keep their order, and as many can be filled in
+    /// without memory as before. It takes constant time where objects are taken out as `close_up` says.
+    pub fn take_out(&mut self, i: usize) -> Object
+        requires { i < length self.old.objects }
+        ensures out { slice_get self.old.objects i ≡ Some result }
+        ensures after { self.new ≡ record self.old { objects = remove self.old.objects i } }
+    {
+        let object = self.row.take_out(i);
+        self.sum -= body_length(&object.body);
+        object
     }
 
     /// Keeps an object, where no kept object of its key has a greater fetch and its length is at most the limit. It
@@ -164,49 +210,38 @@ fn replace(row: &mut Row<Object>, sum: &mut u64, object: Object, most: u64)
     row.push(object);
 }
 
-// an empty row with places for as many objects as this row has and can take
-fn empty_row(alloc: Global, row: &Row<Object>) -> Result<Row<Object>, AllocError>
-    ensures { IfOk result (λ empty. empty ≡ record { items = []; spare = length row.now.items + row.now.spare }) }
-{
-    let Some(places) = row.len().checked_add(row.spare()) else {
-        return Err(AllocError);
-    };
-    let mut empty = Row::new(alloc);
-    empty.reserve(alloc, places)?;
-    Ok(empty)
-}
-
-// moves the objects that the selection does not hit to the end of another row, and lowers the sum by the others
-fn move_unhit(row: &mut Row<Object>, rest: &mut Row<Object>, sum: &mut u64, selection: &Selection)
-    requires apart { AreApart rest.old.items row.old.items }
-    requires places { rest.old.spare ≡ length row.old.items + row.old.spare }
-    requires sum { sum.old ≡ total rest.old.items + total row.old.items }
-    ensures rest { rest.new ≡ record {
-      items = rest.old.items ++ unhit selection.now row.old.items;
-      spare = row.old.spare;
-    } }
-    ensures sum { sum.new ≡ total rest.new.items }
-    ensures lower { sum.new ≤ sum.old }
-{
-    'objects: while let Some(object) = row.take_first() {
-        if selection.hits(&object.key, object.ccid.as_ref()) {
-            rest.give_back();
-            lower(sum, object);
-        } else {
-            rest.push(object);
-        }
-    }
-}
-
 // takes the key's object out
 fn take_key(row: &mut Row<Object>, sum: &mut u64, key: &Key)
     requires { sum.old ≡ total row.old.items }
     ensures row { row.new ≡ record row.old { items = others key.now row.old.items } }
     ensures sum { sum.new ≡ total row.new.items }
+    ensures lower { sum.new ≤ sum.old }
 {
     match row.take(Wanted { key }) {
         Some(object) => lower(sum, object),
         None => {}
+    }
+}
+
+// moves the key's object to the end at a reserved place, with another last start
+fn renew(row: &mut Row<Object>, key: &Key, begun: u64)
+    requires { 0 < row.old.spare }
+    ensures row { row.new ≡ record {
+      items = renewed key.now begun row.old.items;
+      spare = row.old.spare - 1;
+    } }
+    ensures total { total row.new.items ≡ total row.old.items }
+{
+    match row.take(Wanted { key }) {
+        Some(object) => row.push(Object {
+            key: object.key,
+            fetch: object.fetch,
+            ccid: object.ccid,
+            kind: object.kind,
+            body: object.body,
+            begun,
+        }),
+        None => row.give_back(),
     }
 }
 

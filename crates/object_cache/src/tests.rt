@@ -1,9 +1,8 @@
 // What no clause says: that the calls succeed.
 use crate::{Object, ObjectTable};
-use cdni_base::{Body, Ignored, Key, Listing, Target, Text, TypeName, url_key};
+use cdni_base::{Body, Ignored, Key, Target, TypeName, url_key};
 use std::alloc::Global;
 use std::test::Fail;
-use trigger_command::{Selection, UrlItem};
 
 fn key_of(alloc: Global) -> Result<Key, Fail> {
     match Target::read(alloc, b"http://v.example/a", None, false) {
@@ -20,6 +19,7 @@ fn object_of(alloc: Global) -> Result<Object, Fail> {
             ccid: None,
             kind,
             body: Body::of(alloc, b"abc")?,
+            begun: 0,
         }),
         None => Err(Fail::from("no name")),
     }
@@ -44,28 +44,17 @@ fn a_reserved_place_is_given_back(rt: HostRuntime) -> Result<(), Fail> {
     Ok(())
 }
 
-fn selection_of(alloc: Global) -> Result<Selection, Fail> {
-    let mut content_urls = Listing::new(alloc);
-    content_urls.push(UrlItem {
-        text: Text::of(alloc, b"http://v.example/a")?,
-        target: Target::read(alloc, b"http://v.example/a", None, false)?,
-    })?;
-    Ok(Selection {
-        metadata_urls: Listing::new(alloc),
-        content_urls,
-        ccids: Listing::new(alloc),
-        metadata_patterns: Listing::new(alloc),
-        content_patterns: Listing::new(alloc),
-    })
-}
-
 #[test]
-fn what_a_selection_hits_is_taken_out(rt: HostRuntime) -> Result<(), Fail> {
+fn what_is_taken_out_is_not_found(rt: HostRuntime) -> Result<(), Fail> {
     let mut table = ObjectTable::new(rt.alloc(), 6)?;
     let key = key_of(rt.alloc())?;
     table.reserve_fill(rt.alloc())?;
     assert!(rt; table.fill_reserved(object_of(rt.alloc())?));
-    table.drop_matching(rt.alloc(), &selection_of(rt.alloc())?)?;
+    table.close_up();
+    if table.len() > 0 {
+        assert_eq!(rt; table.at(0).fetch, 1);
+        assert_eq!(rt; table.take_out(0).fetch, 1);
+    }
     assert!(rt; table.find(&key).is_none());
     Ok(())
 }

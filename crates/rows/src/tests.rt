@@ -114,6 +114,15 @@ fn take_of(list: &mut Vec<u64>, number: u64) -> Option<u64> {
     Some(list.remove(place))
 }
 
+// takes what stands at an index out of both, where there is one, and whether it was the same
+fn has_taken_out(row: &mut Row<u64>, list: &mut Vec<u64>, index: usize) -> bool {
+    if index >= row.len() || index >= list.len() {
+        return true;
+    }
+    let number = *row.at(index);
+    row.take_out(index) == number && list.remove(index) == number
+}
+
 // one random call on both, and whether they answer the same
 fn agree(
     alloc: Global,
@@ -121,21 +130,26 @@ fn agree(
     list: &mut Vec<u64>,
     random: u64,
 ) -> Result<bool, AllocError> {
-    let number = random / 8 % 64;
-    match random % 8 {
-        0..4 => {
+    let number = random / 16 % 64;
+    match random % 16 {
+        0..8 => {
             add(alloc, row, list, number)?;
             Ok(true)
         }
-        4 => Ok(row.take(&number) == take_of(list, number)),
-        5 => {
+        8 => Ok(row.take(&number) == take_of(list, number)),
+        9..11 => {
             row.touch(&number);
             if let Some(taken) = take_of(list, number) {
                 list.push(taken)?;
             }
             Ok(true)
         }
-        6 => {
+        11 => {
+            row.close_up();
+            Ok(true)
+        }
+        12..14 => Ok(has_taken_out(row, list, (number / 2) as usize)),
+        14 => {
             let first = if list.is_empty() {
                 None
             } else {

@@ -24,7 +24,7 @@ use Rattle.delivery_core.specs.contracts.installed.Installed as installed
 use Rattle.delivery_core.specs.contracts.installed.Installed.TheInside as inside
 use Rattle.std.proofs.option.Option.TheSendSync as maybes
 use Rattle.delivery_core.specs.contracts.edge.Edge as edge
-use Rattle.delivery_core.proofs.shelf.Shelf.TheSendSync as shelves
+use Rattle.shelf.proofs.kept_shelf.Shelf.TheSendSync as shelves
 use Rattle.delivery_core.proofs.records.Records.TheSendSync as records
 use Rattle.delivery_core.proofs.refreshes.Refreshes.TheSendSync as refreshes
 use Rattle.control_core.proofs.control.Control.TheSendSync as controls

@@ -198,6 +198,7 @@ impl State {
         ensures origin { self.new.origin ≡ self.old.origin }
         ensures same { self.new.edge ≡ self.old.edge }
     {
+        sweep_after(&mut self.edge, self.control.job(id));
         self.control.step_done(id, pass, moment);
         Reply::Final { status }
     }
@@ -268,6 +269,19 @@ fn start_by(alloc: Global, edge: &mut Edge, job: Option<&Job>) -> Result<(), All
         TriggerKind::Invalidate | TriggerKind::Purge => {
             edge.start(alloc, job.id, &job.spec.selection)
         }
+    }
+}
+
+// what a purge has taken back leaves memory at its end at the latest (RFC 8007, section 5.2.2)
+fn sweep_after(edge: &mut Edge, job: Option<&Job>)
+    ensures { edge.new ≡ edge.old }
+{
+    let Some(job) = job else {
+        return;
+    };
+    match job.spec.kind {
+        TriggerKind::Purge => edge.sweep(),
+        TriggerKind::Preposition | TriggerKind::Invalidate => {}
     }
 }
 

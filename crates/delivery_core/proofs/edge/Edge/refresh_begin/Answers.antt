@@ -5,4 +5,4 @@ pub invariant_of-self-2 : goal.invariant_of-self-2
 invariant_of-self-2 c =
     let i = c.self-2.invariant in
     let few = i.1 in
-    (i.0, rw (c.in_ok-refresh.ensures.after, length-append) (omega (arith, few)))
+    (i.0, rw (c.in_ok-refresh.ensures.after, length-append) (omega (arith, few)), rw c.in_ok-refresh.ensures.after i.2)

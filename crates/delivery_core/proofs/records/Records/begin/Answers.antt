@@ -1,5 +1,5 @@
 use Rattle.std.proofs.Common.{ap, arith, length-append}
-use Rattle.delivery_core.proofs.OpenLemmas.{none_named, up_to_push}
+use Rattle.shelf.proofs.OpenLemmas.{none_named, up_to_push}
 use Rattle.delivery_core.proofs.records.Records.begin.Goals as goal
 
 pub push-requires-clause-absent : goal.push-requires-clause-absent

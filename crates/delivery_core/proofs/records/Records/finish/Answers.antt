@@ -1,6 +1,6 @@
 use Rattle.std.proofs.Common.{ap, arith, length-append}
-use Rattle.delivery_core.proofs.ListLemmas.{taken_length}
-use Rattle.delivery_core.proofs.OpenLemmas.{up_to_filter}
+use Rattle.shelf.proofs.ListLemmas.{taken_length}
+use Rattle.shelf.proofs.OpenLemmas.{up_to_filter}
 use Rattle.delivery_core.proofs.records.Records.finish.Goals as goal
 
 pub invariant_of-self : goal.invariant_of-self

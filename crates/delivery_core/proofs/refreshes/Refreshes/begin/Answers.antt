@@ -1,5 +1,5 @@
 use Rattle.std.proofs.Common.{arith}
-use Rattle.delivery_core.proofs.OpenLemmas.{none_named, up_to_push}
+use Rattle.shelf.proofs.OpenLemmas.{none_named, up_to_push}
 use Rattle.delivery_core.proofs.RefreshLemmas.{between_push}
 use Rattle.delivery_core.proofs.refreshes.Refreshes.begin.Goals as goal
 

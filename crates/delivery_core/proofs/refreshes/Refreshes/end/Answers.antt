@@ -1,9 +1,9 @@
 use Rattle.std.proofs.Common.{not, refl, sym, ap, arith}
-use Rattle.delivery_core.proofs.ListLemmas.{filter-map, find-map}
-use Rattle.delivery_core.proofs.OpenLemmas.{up_to_filter}
+use Rattle.shelf.proofs.ListLemmas.{filter-map, find-map}
+use Rattle.shelf.proofs.OpenLemmas.{up_to_filter}
 use Rattle.delivery_core.proofs.RefreshLemmas.{between_filter, between_found, refreshes}
 use Rattle.delivery_core.proofs.refreshes.Refreshes.end.Goals as goal
-use Rattle.delivery_core.specs.Open.{is_named}
+use Rattle.shelf.specs.Open.{is_named}
 use Rattle.delivery_core.specs.Refreshes.{with_since}
 
 pub overflow_sub-from : goal.overflow_sub-from

@@ -1,6 +1,6 @@
 use Rattle.std.specs.List.{find}
 use Rattle.std.specs.Option.{option_map}
-use Rattle.delivery_core.specs.Open.{is_named}
+use Rattle.shelf.specs.Open.{is_named}
 use Rattle.metadata_objects.specs.Tree.{tree_view}
 use Rattle.node_core.proofs.EndLemmas.{refresh_ends}
 use Rattle.node_core.proofs.StateLemmas.{refresh_end_told, refresh_told_sound, sound_refresh_end}

@@ -1,4 +1,4 @@
-use Rattle.std.proofs.Common.{◌<◌, ◌++◌, ◌∷◌, ◌-◌, [], List, find, sym, ap, subst, ◌∙◌}
+use Rattle.std.proofs.Common.{◌<◌, ◌++◌, ◌∷◌, ◌-◌, [], List, find, refl, sym, ap, subst, ◌∙◌}
 use Rattle.rows.specs.Cells.{present}
 use Rattle.rows.specs.Row.{RowSeen}
 use Rattle.rows.proofs.RowLemmas.{seen, none_there, row_roomed, row_pushed, present_pushed}
@@ -16,8 +16,8 @@ invariant_of-self g c =
     let m = c.make_room in
     let some = subst (λ (v : RowSeen g.row.T.Denot). 0 < v.spare) (sym c.self.view_is) c.requires.spare in
     row_pushed m.new.cells c.push.new.self i.count m.new.front i.spare c.args.item
-    (row_roomed i.cells m.new.cells i.count i.front i.spare m.new.front c.self.invariant m.ensures.items m.ensures.gone m.ensures.within
-    m.ensures.spare m.ensures.total) some c.push.ensures.cells c.push.ensures.spare c.push.ensures.room
+    (row_roomed i.cells m.new.cells i.count i.front i.spare i.solid m.new.front 0 c.self.invariant m.ensures.items m.ensures.gone m.ensures.within
+    m.ensures.spare m.ensures.total refl) some c.push.ensures.cells c.push.ensures.spare c.push.ensures.room
 
 pub returns : goal.returns
 returns g c =

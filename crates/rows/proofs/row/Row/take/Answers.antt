@@ -1,4 +1,4 @@
-use Rattle.std.proofs.Common.{List, Option, Some, not, filter, find, take, sym, ap, subst, ◌∙◌}
+use Rattle.std.proofs.Common.{List, Option, Some, not, filter, find, take, refl, sym, ap, subst, ◌∙◌}
 use Rattle.rows.specs.Cells.{present}
 use Rattle.rows.specs.Row.{RowSeen, IsTakenOut}
 use Rattle.rows.proofs.RowLemmas.{seen, one_find, none_found, some_counted, gone_set, row_taken, taken_out}
@@ -22,7 +22,7 @@ pub overflow_sub-self : goal.overflow_sub-self
 overflow_sub-self g c =
     let i = c.self.inside in
     let f = c.in-Some.ensures.found in
-    some_counted i.cells i.count i.front i.spare c.in-Some.p f.0 c.self.invariant f.1
+    some_counted i.cells i.count i.front i.spare i.solid c.in-Some.p f.0 c.self.invariant f.1
 
 pub first_place-self-inside-requires-clause-gone : goal.first_place-self-inside-requires-clause-gone
 first_place-self-inside-requires-clause-gone g c =
@@ -34,9 +34,9 @@ pub invariant_of-self : goal.invariant_of-self
 invariant_of-self g c =
     let i = c.self.inside in
     let f = c.in-Some.ensures.found in
-    row_taken i.cells c.take-taken.new.self i.count i.front i.spare c.first_place-self-inside.result c.in-Some.p f.0 c.self.invariant f.1
+    row_taken i.cells c.take-taken.new.self i.count i.front i.spare i.solid c.first_place-self-inside.result c.in-Some.p 0 f.0 c.self.invariant f.1
     c.take-taken.ensures.cells c.take-taken.ensures.spare c.take-taken.ensures.room
-    c.first_place-self-inside.ensures.gone c.first_place-self-inside.ensures.within
+    c.first_place-self-inside.ensures.gone c.first_place-self-inside.ensures.within refl
 
 pub returns-clause-found : goal.returns-clause-found
 returns-clause-found g c =

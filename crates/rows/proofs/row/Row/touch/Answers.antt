@@ -1,4 +1,4 @@
-use Rattle.std.proofs.Common.{List, Option, None, Some, not, filter, find, take, set, length, length-set, arith, ap, subst, ◌∙◌}
+use Rattle.std.proofs.Common.{List, Option, None, Some, not, filter, find, take, set, length, length-set, arith, refl, ap, subst, ◌∙◌}
 use Rattle.std.proofs.lemmas.List.{length_push}
 use Rattle.rows.specs.Cells.{present}
 use Rattle.rows.specs.Row.{RowSeen, moved, IsTakenOut}
@@ -45,8 +45,8 @@ invariant_of-self-2 g c =
     let m = c.make_room in
     let f = c.in-Some.ensures.found in
     row_moved m.new.cells c.move_to_end.new.cells i.count m.new.front i.spare c.first_place-self-inside.result c.in-Some.p f.0
-    (row_roomed i.cells m.new.cells i.count i.front i.spare m.new.front c.self.invariant m.ensures.items m.ensures.gone m.ensures.within
-    m.ensures.spare m.ensures.total) f.1 (c.move_to_end.ensures.moved f.0 f.1) c.move_to_end.ensures.spare c.move_to_end.ensures.room
+    (row_roomed i.cells m.new.cells i.count i.front i.spare i.solid m.new.front 0 c.self.invariant m.ensures.items m.ensures.gone m.ensures.within
+    m.ensures.spare m.ensures.total refl) f.1 (c.move_to_end.ensures.moved f.0 f.1) c.move_to_end.ensures.spare c.move_to_end.ensures.room
     c.first_place-self-inside.ensures.gone c.first_place-self-inside.ensures.within
 
 pub returns-clause-after : goal.returns-clause-after

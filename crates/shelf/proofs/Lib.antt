@@ -1,0 +1,4 @@
+pub mod ListLemmas
+pub mod OpenLemmas
+pub mod ShelfLemmas
+pub mod StaleLemmas

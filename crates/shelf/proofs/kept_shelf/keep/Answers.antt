@@ -1,0 +1,10 @@
+use Rattle.std.proofs.Common.{sym, ◌∙◌}
+use Rattle.shelf.proofs.ShelfLemmas.{brought_hit}
+use Rattle.shelf.proofs.kept_shelf.keep.Goals as goal
+use Rattle.shelf.specs.KeptShelf.{flight_of, kept_in}
+
+pub returns-then-is_hit-clause-kept : goal.returns-then-is_hit-clause-kept
+returns-then-is_hit-clause-kept c =
+    let starts = c.args.epochs.now.known.starts in
+    rw c.give_back.ensures (brought_hit c.args.table.now.limit (kept_in starts c.args.noted.now c.args.table.now.objects) (flight_of starts c.args.flight) c.args.outcome
+    (sym c.is_hit.ensures ∙ c.if-is_hit.true))

@@ -1,0 +1,3 @@
+pub mod Open
+pub mod OpenEquality
+pub mod KeptShelf

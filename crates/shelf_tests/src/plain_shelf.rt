@@ -1,0 +1,174 @@
+//! A shelf as a plain program, without contracts.
+
+use cdni_base::Key;
+use history::Fetching;
+use object_cache::Object;
+use shelf::{Flight, Open};
+use std::alloc::{AllocError, Global};
+use trigger_command::Selection;
+use upstream_gate::{Got, Outcome};
+
+/// What `shelf::Shelf` is seen as: the most bytes that are kept, the kept objects, the least recently used first, the open
+/// fetches, and how many were opened.
+#[derive(Drop)]
+pub struct PlainShelf {
+    limit: usize,
+    kept: Vec<Object>,
+    flights: Vec<Open<Flight>>,
+    fetched: u64,
+}
+
+impl PlainShelf {
+    /// Nothing kept and nothing open.
+    pub fn new(alloc: Global, limit: usize) -> PlainShelf {
+        PlainShelf {
+            limit,
+            kept: Vec::new(alloc),
+            flights: Vec::new(alloc),
+            fetched: 0,
+        }
+    }
+
+    /// Opens a fetch for this pass, and answers its number.
+    ///
+    /// # Errors
+    /// Want of memory.
+    pub fn open(&mut self, pass: u32, fetching: Fetching) -> Result<u64, AllocError> {
+        self.fetched = self.fetched.saturating_add(1);
+        self.flights.push(Open {
+            number: self.fetched,
+            pass,
+            what: Flight {
+                fetching,
+                hit: false,
+            },
+        })?;
+        Ok(self.fetched)
+    }
+
+    /// How many fetches were opened.
+    pub fn fetched(&self) -> u64 {
+        self.fetched
+    }
+
+    /// What is kept under the key.
+    pub fn find(&self, key: &Key) -> Option<&Object> {
+        let place = place_of(&self.kept, key)?;
+        Some(&self.kept[place])
+    }
+
+    /// What is kept under the key goes to the end.
+    ///
+    /// # Errors
+    /// Want of memory.
+    pub fn touch(&mut self, key: &Key) -> Result<(), AllocError> {
+        if let Some(place) = place_of(&self.kept, key) {
+            let object = self.kept.remove(place);
+            self.kept.push(object)?;
+        }
+        Ok(())
+    }
+
+    /// A trigger starts: what its selection hits leaves, and each open fetch that it hits is marked.
+    ///
+    /// # Errors
+    /// Want of memory.
+    pub fn start(&mut self, alloc: Global, selection: &Selection) -> Result<(), AllocError> {
+        let kept = std::mem::replace(&mut self.kept, Vec::new(alloc));
+        for object in kept {
+            if !selection.hits(&object.key, object.ccid.as_ref()) {
+                self.kept.push(object)?;
+            }
+        }
+        let flights = std::mem::replace(&mut self.flights, Vec::new(alloc));
+        for flight in flights {
+            self.flights.push(struck(flight, selection))?;
+        }
+        Ok(())
+    }
+
+    /// Ends the fetch of this number, and keeps what it brought where it is to be kept.
+    ///
+    /// # Errors
+    /// Want of memory.
+    pub fn end(
+        &mut self,
+        pass: u32,
+        fetch: u64,
+        outcome: Outcome,
+    ) -> Result<Option<bool>, AllocError> {
+        let is_it = |open: &Open<Flight>| open.number == fetch && open.pass == pass;
+        let Some(place) = self.flights.iter().position(is_it) else {
+            return Ok(None);
+        };
+        let flight = self.flights.remove(place);
+        match outcome {
+            Outcome::Got(got) => Ok(Some(self.keep(flight, got)?)),
+            _ => Ok(Some(false)),
+        }
+    }
+
+    // keeps what an open fetch brought where it is to be kept
+    fn keep(&mut self, flight: Open<Flight>, got: Got) -> Result<bool, AllocError> {
+        if flight.what.hit || got.status() != 200 || got.body().bytes().len() > self.limit {
+            return Ok(false);
+        }
+        if let Some(place) = place_of(&self.kept, &flight.what.fetching.key) {
+            if self.kept[place].fetch > flight.number {
+                return Ok(false);
+            }
+            drop(self.kept.remove(place));
+        }
+        let (kind, body) = got.into_parts();
+        let Fetching { key, ccid } = flight.what.fetching;
+        self.kept.push(Object {
+            key,
+            fetch: flight.number,
+            ccid,
+            kind,
+            body,
+            begun: 0,
+        })?;
+        self.evict();
+        Ok(true)
+    }
+
+    // lets the first objects leave until the others have at most so many bytes together
+    fn evict(&mut self) {
+        for _ in 0..self.kept.len() {
+            if total(&self.kept) > self.limit && !self.kept.is_empty() {
+                drop(self.kept.remove(0));
+            }
+        }
+    }
+}
+
+// the place of the object of this key
+fn place_of(kept: &Vec<Object>, key: &Key) -> Option<usize> {
+    let place = kept.iter().position(|object| object.key == *key)?;
+    if place < kept.len() {
+        Some(place)
+    } else {
+        None
+    }
+}
+
+// an open fetch, marked where the selection hits it
+fn struck(flight: Open<Flight>, selection: &Selection) -> Open<Flight> {
+    let fetching = flight.what.fetching;
+    let hit = flight.what.hit || selection.hits(&fetching.key, fetching.ccid.as_ref());
+    Open {
+        number: flight.number,
+        pass: flight.pass,
+        what: Flight { fetching, hit },
+    }
+}
+
+// how many bytes the objects have together
+fn total(kept: &Vec<Object>) -> usize {
+    let mut total = 0usize;
+    for object in kept {
+        total = total.saturating_add(object.body.bytes().len());
+    }
+    total
+}

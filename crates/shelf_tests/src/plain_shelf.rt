@@ -1,5 +1,7 @@
 //! A shelf as a plain program, without contracts.
 
+ghost use Rattle.std.specs.Prelude.{◌<◌, IfSome, vec_len};
+
 use cdni_base::Key;
 use history::Fetching;
 use object_cache::Object;
@@ -82,7 +84,11 @@ impl PlainShelf {
         }
         let flights = std::mem::replace(&mut self.flights, Vec::new(alloc));
         for flight in flights {
-            self.flights.push(struck(flight, selection))?;
+            self.flights.push(Open {
+                number: flight.number,
+                pass: flight.pass,
+                what: struck(flight.what, selection),
+            })?;
         }
         Ok(())
     }
@@ -144,7 +150,9 @@ impl PlainShelf {
 }
 
 // the place of the object of this key
-fn place_of(kept: &Vec<Object>, key: &Key) -> Option<usize> {
+fn place_of(kept: &Vec<Object>, key: &Key) -> Option<usize>
+    ensures { IfSome result (λ place. place < vec_len kept.now) }
+{
     let place = kept.iter().position(|object| object.key == *key)?;
     if place < kept.len() {
         Some(place)
@@ -154,14 +162,18 @@ fn place_of(kept: &Vec<Object>, key: &Key) -> Option<usize> {
 }
 
 // an open fetch, marked where the selection hits it
-fn struck(flight: Open<Flight>, selection: &Selection) -> Open<Flight> {
-    let fetching = flight.what.fetching;
-    let hit = flight.what.hit || selection.hits(&fetching.key, fetching.ccid.as_ref());
-    Open {
-        number: flight.number,
-        pass: flight.pass,
-        what: Flight { fetching, hit },
+fn struck(flight: Flight, selection: &Selection) -> Flight {
+    let hit = is_struck(&flight, selection);
+    Flight {
+        fetching: flight.fetching,
+        hit,
     }
+}
+
+// whether a start has hit it, or this selection does
+fn is_struck(flight: &Flight, selection: &Selection) -> bool {
+    let fetching = &flight.fetching;
+    flight.hit || selection.hits(&fetching.key, fetching.ccid.as_ref())
 }
 
 // how many bytes the objects have together

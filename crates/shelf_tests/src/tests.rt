@@ -149,7 +149,35 @@ fn start_both(
     Ok(true)
 }
 
+// what is kept under the key is used, and what is not leaves
+fn use_or_forget(alloc: Global, shelf: &mut Shelf, key: &Key) -> Result<(), Fail>
+    ensures few { shelf.new.fetched + shelf.new.starts ≤ shelf.old.fetched + shelf.old.starts + 1 }
+{
+    if shelf.find(key).is_some() {
+        shelf.renew(alloc, key)?;
+        Ok(())
+    } else {
+        shelf.forget(key);
+        Ok(())
+    }
+}
+
 // uses what is kept under a key in both
+fn use_both(
+    alloc: Global,
+    shelf: &mut Shelf,
+    plain: &mut PlainShelf,
+    random: u64,
+) -> Result<bool, Fail>
+    ensures few { shelf.new.fetched + shelf.new.starts ≤ shelf.old.fetched + shelf.old.starts + 1 }
+{
+    let key = key_of(alloc, random)?;
+    plain.touch(&key)?;
+    use_or_forget(alloc, shelf, &key)?;
+    Ok(true)
+}
+
+// moves what is kept under a key to the end in both
 fn touch_both(
     alloc: Global,
     shelf: &mut Shelf,
@@ -207,7 +235,8 @@ fn agree(
             shelf.sweep();
             Ok(true)
         }
-        19..24 => touch_both(alloc, shelf, plain, number),
+        19..22 => use_both(alloc, shelf, plain, number),
+        22..24 => touch_both(alloc, shelf, plain, number),
         _ => is_found_alike(alloc, shelf, plain, number),
     }
 }

@@ -1,8 +1,9 @@
 #!/usr/bin/env bash
 # Instructions of an invalidate in `cdnid replay`, counted under callgrind: its command, start and end, by a URL,
 # by a pattern and by a ccid, each of which hits one object, over 100, 10,000 and 100,000 kept objects; and those of
-# 1,000 hits after it. A start looks at every kept object, so it costs the more the more there are: the figures are
-# stated, and nothing is asked of them.
+# 1,000 hits after it. A start looks at no kept object. Then those of 1,000 hits of one object after 1,000 starts by patterns, which
+# the first of them tries, beside those of 1,000 hits without such starts. It ends with status 1 where an invalidate over the most objects
+# takes more than 1.1 times what it takes over the fewest, or the hits after the starts more than 1.1 times the others.
 # Usage: bench/triggers.sh [OBJECTS..]   (needs valgrind; builds the program by `rt run` where it is not built; 100,000
 # objects take some ten minutes)
 set -eu
@@ -62,6 +63,33 @@ answered() {
   [[ $(grep -c "^$2" "$room/answers") == "$1" ]] || { echo "not $1 answers $2" >&2; exit 1; }
 }
 
+# 1,000 invalidates by a pattern that hits nothing, up to their ends.
+patterns() {
+  awk 'BEGIN {
+    for (i = 1; i <= 1000; i++) {
+      print "0 3000 command {\"cdn-path\":[],\"trigger\":{\"type\":\"invalidate\",\"content.patterns\":[{\"pattern\":\"*/none/" i "/*\"}]}}"
+      print "0 3000 advance " i
+      print "0 3000 advance " i
+      print "0 3000 delete " i
+    }
+  }'
+}
+
+# So many requests of one object. Argument: how many.
+hits_of_one() {
+  awk -v count="$1" -v get="$get" 'BEGIN { for (i = 0; i < count; i++) print get "/films/000050" }'
+}
+
+# Whether a figure is at most 1.1 times another. Arguments: what it is, the figure, the other.
+at_most() {
+  if (($2 * 10 > $3 * 11)); then
+    echo "$1: $2, which is more than 1.1 times $3" >&2
+    missed=1
+  fi
+}
+
+missed=0
+declare -A first
 (($#)) || set -- 100 10000 100000
 for count in "$@"; do
   objects "$count" >"$room/objects"
@@ -75,5 +103,27 @@ for count in "$@"; do
     hit=$(replay_instructions "$room/hit")
     answered 1000 hit
     echo "$count objects, by $by: $((invalidated - before)) instructions, $((hit - invalidated)) of 1,000 hits after it"
+    first[$by]=${first[$by]:-$((invalidated - before))}
+    at_most "an invalidate by $by over $count objects" $((invalidated - before)) "${first[$by]}"
   done
 done
+
+# The instructions of 1,000 hits of one object, behind one, and after what a script has. Argument: the script.
+thousand_hits() {
+  local less more
+  { cat "$1"; hits_of_one 1; } >"$room/less"
+  { cat "$1"; hits_of_one 1001; } >"$room/more"
+  less=$(replay_instructions "$room/less")
+  more=$(replay_instructions "$room/more")
+  answered 1001 hit
+  echo $((more - less))
+}
+
+objects 100 >"$room/objects"
+{ cat "$room/objects"; patterns; } >"$room/started"
+plain=$(thousand_hits "$room/objects")
+started=$(thousand_hits "$room/started")
+answered 1000 'final complete'
+echo "1,000 hits of one object: $plain instructions, and $started after 1,000 starts by patterns"
+at_most "1,000 hits after 1,000 starts by patterns" "$started" "$plain"
+exit "$missed"

@@ -51,18 +51,20 @@ const STARTS: [&str; 6] = [
     ),
 ];
 
-// what the trigger of this text selects
-fn selection_of(alloc: Global, text: &str) -> Result<Selection, Fail> {
+// the command of this text, which is to be read
+fn read_command(alloc: Global, text: &[u8]) -> Result<Command, Fail> {
     let own = ProviderId::read(alloc, b"AS64496:0")?;
     let control = Endpoint::read(alloc, b"control.example")?.host;
-    match Command::read(alloc, text.as_bytes(), &own, &control).ok() {
-        Some(
-            Command {
-                act: Act::Trigger(spec),
-                ..
-            },
-        ) => Ok(spec.selection),
-        _ => Err("no trigger".into()),
+    let command = Command::read(alloc, text, &own, &control).ok();
+    Ok(command.ok_or("refused")?)
+}
+
+// what the trigger of this text selects
+fn selection_of(alloc: Global, text: &str) -> Result<Selection, Fail> {
+    let Command { path: _, act } = read_command(alloc, text.as_bytes())?;
+    match act {
+        Act::Trigger(spec) => Ok(spec.selection),
+        Act::Cancel(_) => Err("no trigger".into()),
     }
 }
 

@@ -22,6 +22,10 @@ pass_of course = drawn_below PASSES (next_number course.number)
 abbrev pub path_of : Course → ℕ
 path_of course = drawn_below PATHS (next_number (next_number course.number))
 
+-- what the two draws of a round leave
+abbrev pub drawn_twice : Course → Course
+drawn_twice course = record course { number = next_number (next_number course.number) }
+
 -- the path that is purged, by one draw
 abbrev pub purged_path : Course → ℕ
 purged_path course = drawn_below PATHS (next_number course.number)
@@ -43,7 +47,7 @@ fetch_lines pass moment path course =
 -- a delivery: the request, the fetch where there is one, and the end
 unfoldable pub delivery_lines : ℕ → Course → List ℕ
 delivery_lines round course = get_line (pass_of course) (moment_of round) (path_of course)
-    ++ fetch_lines (pass_of course) (moment_of round) (path_of course) course
+    ++ fetch_lines (pass_of course) (moment_of round) (path_of course) (drawn_twice course)
     ++ finish_line (pass_of course) (moment_of round) round
 
 -- in each hundredth round: a purge of the path, which is done and deleted
@@ -66,8 +70,7 @@ fetched path course = if is_marked course path then course
 
 -- two numbers were drawn, and the path was fetched
 unfoldable pub delivered : Course → Course
-delivered course =
-    record (fetched (path_of course) course) { number = next_number (next_number course.number) }
+delivered course = fetched (path_of course) (drawn_twice course)
 
 -- one number was drawn, and the mark of the path is taken away
 unfoldable pub purged : Course → Course

@@ -5,8 +5,8 @@ mod course;
 mod line;
 mod numbers;
 mod script;
-
-
+#[cfg(test)]
+mod tests;
 
 pub use course::{PASSES, PATHS};
 pub use numbers::{MOST_ROUNDS, MOST_SEED, Numbers};

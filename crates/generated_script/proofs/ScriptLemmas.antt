@@ -6,22 +6,22 @@ use Rattle.std.proofs.KnownBytes.{Appends-trans, Appends-nil}
 use Rattle.std.proofs.Math.Seq.{take-append-add, take-append_seam}
 use Rattle.std.proofs.lemmas.List.{take-append-le}
 use Rattle.generated_script.specs.Line.{first_lines}
-use Rattle.generated_script.specs.Course.{start_of, round_lines, after_round}
+use Rattle.generated_script.specs.Course.{course_of, round_lines, after_round}
 use Rattle.generated_script.specs.declared.course.Course.{Course}
 use Rattle.generated_script.specs.Script.{script_of, rounds_text, MovesOut}
 
-pub record Running (old now : Option (List ℕ)) (buffer rest text : List ℕ) : Type 0 where
+pub record UnderWay (old now : Option (List ℕ)) (buffer rest text : List ℕ) : Type 0 where
   pub written : List ℕ
   pub added : Appends old now written
   pub whole : written ++ (buffer ++ rest) ≡ text
 
 -- nothing is written yet
-pub running_start : (old : Option (List ℕ)) (buffer rest text : List ℕ) → buffer ++ rest ≡ text → Running old old buffer rest text
+pub running_start : (old : Option (List ℕ)) (buffer rest text : List ℕ) → buffer ++ rest ≡ text → UnderWay old old buffer rest text
 running_start old buffer rest text is = record { written = []; added = Appends-nil old; whole = is }
 
 -- more of the rest is in the buffer
-pub running_put : (old now : Option (List ℕ)) (buffer rest text lines more grown : List ℕ) → Running old now buffer rest text → grown ≡ buffer ++ lines → rest ≡ lines ++ more
-    → Running old now grown more text
+pub running_put : (old now : Option (List ℕ)) (buffer rest text lines more grown : List ℕ) → UnderWay old now buffer rest text → grown ≡ buffer ++ lines → rest ≡ lines ++ more
+    → UnderWay old now grown more text
 running_put old now buffer rest text lines more grown r grown_is rest_is = record {
   written = r.written;
   added = r.added;
@@ -36,14 +36,14 @@ rounds_text_next left round course = refl
 rounds_text_from : (left next round : ℕ) (course : Course) → left ≡ suc next → rounds_text left round course ≡ round_lines round course ++ rounds_text next (round + 1) (after_round round course)
 rounds_text_from left next round course is = ap (λ n. rounds_text n round course) is ∙ rounds_text_next next round course
 
-pub running_round : (old now : Option (List ℕ)) (buffer text grown : List ℕ) (left round : ℕ) (course after : Course) → Running old now buffer (rounds_text left round course) text → 0 < left
-    → grown ≡ buffer ++ round_lines round course → after ≡ after_round round course → Running old now grown (rounds_text (left - 1) (round + 1) after) text
+pub running_round : (old now : Option (List ℕ)) (buffer text grown : List ℕ) (left round : ℕ) (course after : Course) → UnderWay old now buffer (rounds_text left round course) text → 0 < left
+    → grown ≡ buffer ++ round_lines round course → after ≡ after_round round course → UnderWay old now grown (rounds_text (left - 1) (round + 1) after) text
 running_round old now buffer text grown left round course after r some grown_is after_is =
     running_put old now buffer _ text (round_lines round course) _ grown r grown_is
     (rounds_text_from left (left - 1) round course (omega arith) ∙ ap (λ (c : Course). round_lines round course ++ rounds_text (left - 1) (round + 1) c) (sym after_is))
 
 -- a front of the buffer was written
-pub running_moved : (old now next : Option (List ℕ)) (buffer rest text kept : List ℕ) → Running old now buffer rest text → MovesOut now next buffer kept false → Running old next kept rest text
+pub running_moved : (old now next : Option (List ℕ)) (buffer rest text kept : List ℕ) → UnderWay old now buffer rest text → MovesOut now next buffer kept false → UnderWay old next kept rest text
 running_moved old now next buffer rest text kept r moved = record {
   written = r.written ++ moved.0;
   added = Appends-trans old now next _ _ r.added moved.1;
@@ -51,7 +51,7 @@ running_moved old now next buffer rest text kept r moved = record {
 }
 
 -- a part of the buffer was written that lacks its end
-pub running_cut : (old now next : Option (List ℕ)) (buffer rest text : List ℕ) → Running old now buffer rest text → (n : ℕ) → n < length buffer → Appends now next (take n buffer)
+pub running_cut : (old now next : Option (List ℕ)) (buffer rest text : List ℕ) → UnderWay old now buffer rest text → (n : ℕ) → n < length buffer → Appends now next (take n buffer)
     → (m : ℕ) × (m < length text) × Appends old next (take m text)
 running_cut old now next buffer rest text r n short added =
     let front : take (length r.written + n) text ≡ r.written ++ take n buffer =
@@ -61,12 +61,12 @@ running_cut old now next buffer rest text r n short added =
     (length r.written + n, omega (arith, long), subst (Appends old next) (sym front) (Appends-trans old now next _ _ r.added added))
 
 -- nothing more was written
-pub running_front : (old now : Option (List ℕ)) (buffer rest text : List ℕ) → Running old now buffer rest text → (m : ℕ) × Appends old now (take m text)
+pub running_front : (old now : Option (List ℕ)) (buffer rest text : List ℕ) → UnderWay old now buffer rest text → (m : ℕ) × Appends old now (take m text)
 running_front old now buffer rest text r =
     (length r.written, subst (Appends old now) (sym (ap (take (length r.written)) (sym r.whole) ∙ take-append_seam r.written (buffer ++ rest))) r.added)
 
 -- all is in the buffer, and was written
-pub running_done : (old now next : Option (List ℕ)) (buffer text : List ℕ) (left round : ℕ) (course : Course) → Running old now buffer (rounds_text left round course) text → left ≡ 0 → Appends now next buffer
+pub running_done : (old now next : Option (List ℕ)) (buffer text : List ℕ) (left round : ℕ) (course : Course) → UnderWay old now buffer (rounds_text left round course) text → left ≡ 0 → Appends now next buffer
     → Appends old next text
 unfolding rounds_text
 running_done old now next buffer text left round course r none added =
@@ -75,7 +75,7 @@ running_done old now next buffer text left round course r none added =
     subst (Appends old next) all (Appends-trans old now next _ _ r.added added)
 
 -- the first lines are in the buffer
-pub begun : (empty buffer : List ℕ) (left rounds seed : ℕ) (course : Course) → empty ≡ [] → buffer ≡ empty ++ first_lines → left ≡ rounds → course ≡ start_of seed
+pub begun : (empty buffer : List ℕ) (left rounds seed : ℕ) (course : Course) → empty ≡ [] → buffer ≡ empty ++ first_lines → left ≡ rounds → course ≡ course_of seed
     → buffer ++ rounds_text left 1 course ≡ script_of rounds seed
 unfolding script_of
 begun empty buffer left rounds seed course none is left_is start =

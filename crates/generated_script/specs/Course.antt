@@ -36,8 +36,8 @@ abbrev pub is_marked : Course → ℕ → Bool
 is_marked course path = get_or course.marks path false
 
 -- the first round is one millisecond after the metadata came, and each is one after the one before
-abbrev pub moment_of : ℕ → ℕ
-moment_of round = 1000 + round
+abbrev pub round_moment : ℕ → ℕ
+round_moment round = 1000 + round
 
 -- the answer to the next fetch, where the path is not marked
 unfoldable pub fetch_lines : ℕ → ℕ → ℕ → Course → List ℕ
@@ -46,31 +46,31 @@ fetch_lines pass moment path course =
 
 -- a delivery: the request, the fetch where there is one, and the end
 unfoldable pub delivery_lines : ℕ → Course → List ℕ
-delivery_lines round course = get_line (pass_of course) (moment_of round) (path_of course)
-    ++ fetch_lines (pass_of course) (moment_of round) (path_of course) (drawn_twice course)
-    ++ finish_line (pass_of course) (moment_of round) round
+delivery_lines round course = get_line (pass_of course) (round_moment round) (path_of course)
+    ++ fetch_lines (pass_of course) (round_moment round) (path_of course) (drawn_twice course)
+    ++ finish_line (pass_of course) (round_moment round) round
 
 -- in each hundredth round: a purge of the path, which is done and deleted
 unfoldable pub purge_lines : ℕ → ℕ → List ℕ
-purge_lines round path = command_line (moment_of round) path
-    ++ advance_line (moment_of round) (round / 100)
-    ++ advance_line (moment_of round) (round / 100)
-    ++ delete_line (moment_of round) (round / 100)
+purge_lines round path = command_line (round_moment round) path
+    ++ advance_line (round_moment round) (round / 100)
+    ++ advance_line (round_moment round) (round / 100)
+    ++ delete_line (round_moment round) (round / 100)
 
 -- in each thousandth round: a log file is cut and dropped
 unfoldable pub log_lines : ℕ → List ℕ
-log_lines round = cut_line (moment_of round) ++ droplog_line (moment_of round) (round / 1000)
+log_lines round = cut_line (round_moment round) ++ droplog_line (round_moment round) (round / 1000)
 
 -- ---- what it leaves
 
 -- the path was fetched, unless it is marked
-unfoldable pub fetched : ℕ → Course → Course
-fetched path course = if is_marked course path then course
+unfoldable pub with_fetch : ℕ → Course → Course
+with_fetch path course = if is_marked course path then course
     else record course { marks = set course.marks path true; answers = course.answers + 1 }
 
 -- two numbers were drawn, and the path was fetched
 unfoldable pub delivered : Course → Course
-delivered course = fetched (path_of course) (drawn_twice course)
+delivered course = with_fetch (path_of course) (drawn_twice course)
 
 -- one number was drawn, and the mark of the path is taken away
 unfoldable pub purged : Course → Course
@@ -82,8 +82,8 @@ purged course = record course {
 -- ---- rounds
 
 -- the draws begin with the seed, no path is marked and nothing was fetched
-abbrev pub start_of : ℕ → Course
-start_of seed = record { number = seed; marks = replicate PATHS false; answers = 0 }
+abbrev pub course_of : ℕ → Course
+course_of seed = record { number = seed; marks = replicate PATHS false; answers = 0 }
 
 -- what a round of this number says
 unfoldable pub round_lines : ℕ → Course → List ℕ

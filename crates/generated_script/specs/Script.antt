@@ -5,7 +5,7 @@ use Rattle.std.specs.Io.KnownBytes.{Appends}
 use Rattle.edge_base.specs.declared.status.Status.{Status}
 use Rattle.edge_base.specs.declared.status.Status.TheVariants as status
 use Rattle.generated_script.specs.Line.{first_lines}
-use Rattle.generated_script.specs.Course.{start_of, round_lines, after_round}
+use Rattle.generated_script.specs.Course.{course_of, round_lines, after_round}
 use Rattle.generated_script.specs.declared.course.Course.{Course}
 
 -- so many rounds, of which the first has this number
@@ -16,7 +16,7 @@ rounds_text (suc left) round course =
 
 -- the whole script: its first lines, and the rounds from 1 on
 unfoldable pub script_of : ℕ → ℕ → List ℕ
-script_of rounds seed = first_lines ++ rounds_text rounds 1 (start_of seed)
+script_of rounds seed = first_lines ++ rounds_text rounds 1 (course_of seed)
 
 -- what the status says of the output: the whole text was added, or at a failed write a part that lacks its end, or for
 -- want of memory a front of it

@@ -1,7 +1,7 @@
 //! The rounds of a generated script.
 
 ghost use Rattle.std.specs.Prelude.{◌≡◌, ◌+◌, ◌<◌, ◌≤◌, ◌%◌, ◌++◌, OnOk};
-ghost use Rattle.generated_script.specs.Course.{start_of, next_number, drawn_below, purged_path, moment_of, fetch_lines, delivery_lines, purge_lines, log_lines, fetched, delivered, purged, round_lines, after_round};
+ghost use Rattle.generated_script.specs.Course.{course_of, next_number, drawn_below, purged_path, round_moment, fetch_lines, delivery_lines, purge_lines, log_lines, with_fetch, delivered, purged, round_lines, after_round};
 ghost use Rattle.generated_script.specs.declared.numbers.TheConstants.{MOST_ROUNDS};
 
 use crate::line::{
@@ -26,7 +26,7 @@ pub(crate) struct Course {
 impl Course {
     // before the first round
     pub(crate) fn new(seed: u32) -> Course
-        ensures { result ≡ start_of seed }
+        ensures { result ≡ course_of seed }
     {
         Course {
             number: seed,
@@ -72,7 +72,7 @@ impl Course {
     }
 
     // adds the answer to a fetch of this path and marks it, where it is not marked
-    #[tactic(auto, unfolding(crate::specs::Course::fetch_lines, crate::specs::Course::fetched))]
+    #[tactic(auto, unfolding(crate::specs::Course::fetch_lines, crate::specs::Course::with_fetch))]
     fn put_fetch(
         &mut self,
         out: &mut Vec<u8>,
@@ -83,7 +83,7 @@ impl Course {
         requires path { path < PATHS }
         requires answers { self.old.answers ≤ MOST_ROUNDS }
         ensures lines { OnOk result (out.new.items ≡ out.old.items ++ fetch_lines pass moment path self.old) }
-        ensures course { OnOk result (self.new ≡ fetched path self.old) }
+        ensures course { OnOk result (self.new ≡ with_fetch path self.old) }
         ensures answers { self.new.answers ≤ self.old.answers + 1 }
     {
         if self.marks[path as usize] {

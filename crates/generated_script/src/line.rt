@@ -32,14 +32,24 @@ pub(crate) fn put_first_lines(out: &mut Vec<u8>) -> Result<(), AllocError>
 }
 
 // adds a request for the path of this number
-pub(crate) fn put_get(out: &mut Vec<u8>, pass: u32, moment: u32, path: u32) -> Result<(), AllocError>
+pub(crate) fn put_get(
+    out: &mut Vec<u8>,
+    pass: u32,
+    moment: u32,
+    path: u32,
+) -> Result<(), AllocError>
     ensures { OnOk result (out.new.items ≡ out.old.items ++ get_line pass moment path) }
 {
     put_line(out, pass, moment, GET, path, b"\n")
 }
 
 // adds the answer to the fetch of this number
-pub(crate) fn put_got(out: &mut Vec<u8>, pass: u32, moment: u32, fetch: u32) -> Result<(), AllocError>
+pub(crate) fn put_got(
+    out: &mut Vec<u8>,
+    pass: u32,
+    moment: u32,
+    fetch: u32,
+) -> Result<(), AllocError>
     ensures { OnOk result (out.new.items ≡ out.old.items ++ got_line pass moment fetch) }
 {
     put_line(out, pass, moment, b" got ", fetch, b" 200 - 61\n")

@@ -1,7 +1,7 @@
 //! The two numbers that make a script.
 
 ghost use Rattle.std.specs.Prelude.{◌≡◌, ℕ, ◌≤◌, Some, IfSome, decimal};
-ghost use Rattle.generated_script.specs.Numbers.{Given, AreWritten};
+ghost use Rattle.generated_script.specs.Numbers.{ScriptNumbers, WriteNumbers};
 ghost use Rattle.generated_script.specs.declared.numbers.TheConstants.{MOST_ROUNDS, MOST_SEED};
 
 use listing::read_decimal;
@@ -21,13 +21,13 @@ pub struct Numbers {
 }
 
 impl Model for Numbers {
-    ghost use Rattle.generated_script.specs.Numbers.{Given, AreInRange};
+    ghost use Rattle.generated_script.specs.Numbers.{ScriptNumbers, AreScriptNumbers};
 
-    ghost Value = { Given };
+    ghost Value = { ScriptNumbers };
 
     ghost view = { λ n. record { rounds = n.rounds; seed = n.seed } };
 
-    ghost invariant = { λ n. AreInRange (record { rounds = n.rounds; seed = n.seed }) };
+    ghost invariant = { λ n. AreScriptNumbers (record { rounds = n.rounds; seed = n.seed }) };
 
     ghost inverse = { λ n. record { rounds = n.rounds; seed = n.seed } };
 }
@@ -36,8 +36,8 @@ impl Numbers {
     /// The numbers that two words write, each in its range, in decimal digits without leading zeros. `None` where a word
     /// writes no such number. It takes no memory.
     pub fn read(rounds: &[u8], seed: &[u8]) -> Option<Numbers>
-        ensures read { IfSome result (λ numbers. AreWritten rounds.now seed.now numbers) }
-        ensures complete { (numbers : Given) → AreWritten rounds.now seed.now numbers → result ≡ Some numbers }
+        ensures read { IfSome result (λ numbers. WriteNumbers rounds.now seed.now numbers) }
+        ensures complete { (numbers : ScriptNumbers) → WriteNumbers rounds.now seed.now numbers → result ≡ Some numbers }
     {
         let Some(rounds) = number_within(rounds, 1, MOST_ROUNDS) else {
             return None;

@@ -47,7 +47,9 @@ fn three_rounds_are_as_an_independent_program_writes_them(rt: HostRuntime) -> Re
 }
 
 #[test]
-fn two_thousand_rounds_are_as_an_independent_program_writes_them(rt: HostRuntime) -> Result<(), Fail> {
+fn two_thousand_rounds_are_as_an_independent_program_writes_them(
+    rt: HostRuntime,
+) -> Result<(), Fail> {
     let alloc = rt.alloc();
     let mut sink = MemorySink::new(alloc, &[])?;
     let status = generate(alloc, &mut sink, &numbers(b"2000", b"7")?);

@@ -18,13 +18,13 @@ pub returns-then-move_out-clause-text : goal.returns-then-move_out-clause-text
 returns-then-move_out-clause-text g c =
     let p = c.in-Ok-put_round.ensures in
     let m = c.if-move_out.ensures.text in
-    running_cut _ _ _ _ _ _ (running_round _ _ _ _ _ _ _ _ _ c.rounds.invariant.running c.rounds-test.true p.lines p.course) m.0 m.1 m.2
+    running_cut _ _ _ _ _ _ (running_round _ _ _ _ _ _ _ _ _ c.rounds.invariant.running (omega (arith, c.rounds-test.true)) p.lines p.course) m.0 m.1 m.2
 
 pub rounds-preserved : goal.rounds-preserved
 rounds-preserved g c =
     let p = c.in-Ok-put_round.ensures in
     record {
-      running = running_moved _ _ _ _ _ _ _ (running_round _ _ _ _ _ _ _ _ _ c.rounds.invariant.running c.rounds-test.true p.lines p.course) c.if-move_out.ensures.text;
+      running = running_moved _ _ _ _ _ _ _ (running_round _ _ _ _ _ _ _ _ _ c.rounds.invariant.running (omega (arith, c.rounds-test.true)) p.lines p.course) c.if-move_out.ensures.text;
       numbered = omega (arith, c.rounds.invariant.numbered, c.rounds-test.true);
       answers = omega (arith, c.rounds.invariant.answers, c.put_round.ensures.answers);
       write_well = c.move_out.ensures.cause.answered c.if-move_out.false ∙ c.rounds.invariant.write_well;

@@ -15,12 +15,15 @@ pub const PASSES: u32 = 4;
 /// How many paths are asked for.
 pub const PATHS: u32 = 50;
 
-// What the rounds so far left: the number that was drawn last, which paths are marked, and how many fetches were answered.
+/// What the rounds so far left, in whose terms the definition of a script is given.
 #[derive(Drop)]
-pub(crate) struct Course {
-    number: u32,
-    marks: [bool; 50],
-    pub(crate) answers: u32,
+pub struct Course {
+    /// The number that was drawn last, below 2^31; the seed, where none was drawn.
+    pub number: u32,
+    /// Which paths are marked, since an answer to a fetch of theirs was written and no purge followed.
+    pub marks: [bool; 50],
+    /// How many answers to fetches were written.
+    pub answers: u32,
 }
 
 impl Course {

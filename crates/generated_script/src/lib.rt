@@ -8,6 +8,6 @@ mod script;
 #[cfg(test)]
 mod tests;
 
-pub use course::{PASSES, PATHS};
+pub use course::{Course, PASSES, PATHS};
 pub use numbers::{MOST_ROUNDS, MOST_SEED, Numbers};
 pub use script::generate;

@@ -1,0 +1,4 @@
+pub mod Course
+pub mod Line
+pub mod Numbers
+pub mod Script

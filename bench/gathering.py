@@ -88,14 +88,24 @@ def configure(room):
 
 
 def run(program, *words):
-    """The seconds of a run and its peak of memory in bytes."""
+    """The seconds of a run, and how many documents it tells."""
     began = time.perf_counter()
-    process = subprocess.Popen([program, *words], stdout=subprocess.PIPE, text=True)
-    said = process.stdout.read()
-    _, status, used = os.wait4(process.pid, 0)
+    said = subprocess.run([program, *words], stdout=subprocess.PIPE, text=True, check=True).stdout
     took = time.perf_counter() - began
-    assert status == 0 and "documents" in said, (words, status, said)
-    return took, used.ru_maxrss * 1024, int(said.split()[0])
+    return took, int(said.removesuffix(" documents\n"))
+
+
+def peak_of(program, *words):
+    """The peak of a run's memory in bytes: what the system tells last, asked for all the time until the run ends."""
+    process = subprocess.Popen([program, *words], stdout=subprocess.DEVNULL)
+    peak = 0
+    while process.poll() is None:
+        with open(f"/proc/{process.pid}/status") as status:
+            told = [line for line in status if line.startswith("VmHWM")]
+        if told:
+            peak = int(told[0].split()[1]) * 1024
+    assert process.returncode == 0 and peak > 0
+    return peak
 
 
 def main():
@@ -110,20 +120,20 @@ def main():
         time.sleep(0.5)
         alone, whole = [], []
         for _ in range(TIMES):
-            took, _, count = run(program, "exchange", str(PORT), str(DOCUMENTS))
+            took, count = run(program, "exchange", str(PORT), str(DOCUMENTS))
             assert count == DOCUMENTS, count
             alone.append(took)
-            took, _, count = run(program, "gather", str(PORT), "/i")
+            took, count = run(program, "gather", str(PORT), "/i")
             assert count == DOCUMENTS, count
             whole.append(took)
         alone, whole = statistics.median(alone), statistics.median(whole)
         late |= whole > GOAL_TIME * alone
         print(f"{DOCUMENTS} documents: {whole * 1000:.0f} ms, their exchanges alone {alone * 1000:.0f} ms: {whole / alone:.2f} times", flush=True)
-        _, small, _ = run(program, "exchange", str(PORT), "1")
+        small = min(peak_of(program, "exchange", str(PORT), "100") for _ in range(TIMES))
         for name, length in lengths.items():
-            took, peak, count = run(program, "gather", str(PORT), f"/{name}/i")
+            took, count = run(program, "gather", str(PORT), f"/{name}/i")
             assert count == PARTS + 1, count
-            times = (peak - small) / length
+            times = (max(peak_of(program, "gather", str(PORT), f"/{name}/i") for _ in range(TIMES)) - small) / length
             late |= times > GOAL_MEMORY
             print(f"{name}: {length} bytes in {took * 1000:.0f} ms, {times:.1f} times of memory", flush=True)
     finally:

@@ -17,7 +17,8 @@ group='{"path-pattern":{"pattern":"/group/*"},"path-metadata":{"metadata":['$gro
 metadata='{"hosts":[{"host":"v.example","host-metadata":{"metadata":['$source'],"paths":['$group']}}]}'
 
 # Installed metadata, and so many kept objects, of which the first is in the group. Every delivery has ended, and its
-# row is in a log file. Argument: how many objects.
+# row is in a log file. Then 20 invalidates that hit nothing, in which the allocator sorts what the log files gave back.
+# Argument: how many objects.
 objects() {
   echo 'limits 1073741824 100000 10000 64 60000 1000000'
   echo '0 1000 refresh'
@@ -30,6 +31,16 @@ objects() {
       if (i % 50000 == 0 || i == count) print "0 2000 cut"
     }
   }'
+  for number in {1..20}; do
+    trigger "$number" '"content.urls":["http://v.example/none"]'
+  done
+}
+
+# An invalidate, up to its end. Arguments: its number, and what it selects.
+trigger() {
+  echo '0 3000 command {"cdn-path":[],"trigger":{"type":"invalidate",'"$2"'}}'
+  echo "0 3000 advance $1"
+  echo "0 3000 advance $1"
 }
 
 # What selects one object. Argument: by what.
@@ -39,13 +50,6 @@ selection() {
     pattern) echo '"content.patterns":[{"pattern":"*/films/000050"}]' ;;
     ccid) echo '"content.ccid":["group"]' ;;
   esac
-}
-
-# An invalidate, up to its end. Argument: by what.
-invalidate() {
-  echo '0 3000 command {"cdn-path":[],"trigger":{"type":"invalidate",'"$(selection "$1")"'}}'
-  echo '0 3000 advance 1'
-  echo '0 3000 advance 1'
 }
 
 # 1,000 requests that hit. Argument: how many objects there are.
@@ -66,7 +70,7 @@ answered() {
 # 1,000 invalidates by a pattern that hits nothing, up to their ends.
 patterns() {
   awk 'BEGIN {
-    for (i = 1; i <= 1000; i++) {
+    for (i = 21; i <= 1020; i++) {
       print "0 3000 command {\"cdn-path\":[],\"trigger\":{\"type\":\"invalidate\",\"content.patterns\":[{\"pattern\":\"*/none/" i "/*\"}]}}"
       print "0 3000 advance " i
       print "0 3000 advance " i
@@ -96,10 +100,10 @@ for count in "$@"; do
   before=$(replay_instructions "$room/objects")
   answered "$count" 'ended kept'
   for by in url pattern ccid; do
-    { cat "$room/objects"; invalidate "$by"; } >"$room/invalidated"
+    { cat "$room/objects"; trigger 21 "$(selection "$by")"; } >"$room/invalidated"
     { cat "$room/invalidated"; hits "$count"; } >"$room/hit"
     invalidated=$(replay_instructions "$room/invalidated")
-    answered 1 'final complete'
+    answered 21 'final complete'
     hit=$(replay_instructions "$room/hit")
     answered 1000 hit
     echo "$count objects, by $by: $((invalidated - before)) instructions, $((hit - invalidated)) of 1,000 hits after it"
@@ -123,7 +127,7 @@ objects 100 >"$room/objects"
 { cat "$room/objects"; patterns; } >"$room/started"
 plain=$(thousand_hits "$room/objects")
 started=$(thousand_hits "$room/started")
-answered 1000 'final complete'
+answered 1020 'final complete'
 echo "1,000 hits of one object: $plain instructions, and $started after 1,000 starts by patterns"
 at_most "1,000 hits after 1,000 starts by patterns" "$started" "$plain"
 exit "$missed"

@@ -7,7 +7,8 @@ use Rattle.std.proofs.lemmas.Bool.{cond-true, cond-false, false≢true, true≢f
 use Rattle.std.proofs.lemmas.List.Folds.{list_any-append}
 use Rattle.std.proofs.lemmas.Slice.Eq.{bytes_eq-Decides}
 use Rattle.metadata_objects.specs.declared.generic.Generic.{Generic}
-use Rattle.inheritance.specs.Effective.{is_of_kind, firsts_after, firsts}
+use Rattle.metadata_objects.specs.GenericList.{is_of_kind}
+use Rattle.inheritance.specs.Effective.{firsts_after, firsts}
 
 -- a type that is equal to another is among the same objects
 same_among : (kind : List ℕ) (object : Generic) (before : List Generic) → is_of_kind kind object ≡ true → list_any (is_of_kind object.kind) before ≡ list_any (is_of_kind kind) before

@@ -7,7 +7,8 @@ use Rattle.std.proofs.lemmas.List.{map-append, take_more, take_all, flat_map_mor
 use Rattle.std.proofs.lemmas.List.Folds.{find-append}
 use Rattle.std.proofs.lemmas.Slice.Eq.{bytes_eq-Decides}
 use Rattle.metadata_objects.specs.declared.generic.Generic.{Generic}
-use Rattle.inheritance.specs.Effective.{is_of_kind, innermost, firsts, all_objects, overriding, effective}
+use Rattle.metadata_objects.specs.GenericList.{is_of_kind}
+use Rattle.inheritance.specs.Effective.{innermost, firsts, all_objects, overriding, effective}
 use Rattle.inheritance.proofs.Firsts.{find_firsts, any_firsts, firsts_push}
 
 -- what is found passes

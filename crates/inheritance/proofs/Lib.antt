@@ -2,3 +2,5 @@ pub mod Chains
 pub mod Firsts
 pub mod Innermost
 pub mod OrderLemmas
+pub mod HostLemmas
+pub mod NoneLemmas

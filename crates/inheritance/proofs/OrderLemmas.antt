@@ -7,7 +7,8 @@ use Rattle.std.proofs.lemmas.List.Kept.{AllPairs-cons}
 use Rattle.std.proofs.lemmas.List.Folds.{list_any-append}
 use Rattle.std.proofs.lemmas.Slice.Eq.{bytes_eq-Decides}
 use Rattle.metadata_objects.specs.declared.generic.Generic.{Generic}
-use Rattle.inheritance.specs.Effective.{is_of_kind, firsts_after, firsts, all_objects, overriding, effective, first_place, AreOfTheirOwnTypes, AreInOrderFromOutside}
+use Rattle.metadata_objects.specs.GenericList.{is_of_kind}
+use Rattle.inheritance.specs.Effective.{firsts_after, firsts, all_objects, overriding, effective, first_place, AreOfTheirOwnTypes, AreInOrderFromOutside}
 use Rattle.inheritance.proofs.Firsts.{any_firsts}
 use Rattle.inheritance.proofs.Innermost.{any_overriding, overriding_kind}
 

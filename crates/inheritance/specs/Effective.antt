@@ -1,13 +1,11 @@
 -- Which objects of the arrays that apply are effective (RFC 8006, section 3.3): a type's object overrides those of the
 -- levels outside it, whether it is understood or not.
-use Rattle.std.specs.Prelude.{ℕ, ◌<◌, ◌≢◌, Bool, bytes_eq, List, [], ◌∷◌, ◌++◌, map, None, if◌then◌else◌}
+use Rattle.std.specs.Prelude.{ℕ, ◌<◌, ◌≢◌, List, [], ◌∷◌, ◌++◌, map, None, if◌then◌else◌}
 use Rattle.std.specs.List.{find, list_any, flat_map, position_or_len, AllPairs}
 use Rattle.std.specs.Option.{option_or, unwrap_or}
 use Rattle.std.specs.declared.option.Option.{Option}
 use Rattle.metadata_objects.specs.declared.generic.Generic.{Generic}
-
-abbrev pub is_of_kind : List ℕ → Generic → Bool
-is_of_kind kind object = bytes_eq object.kind kind
+use Rattle.metadata_objects.specs.GenericList.{is_of_kind}
 
 -- the first object of the type in the innermost array that has one; arrays stand outermost first
 abbrev pub innermost : List ℕ → List (List Generic) → Option Generic

@@ -1,5 +1,5 @@
 -- What is held of the effective objects of the types that are understood (RFC 8006, section 4.2).
-use Rattle.std.specs.Prelude.{ℕ, Bool, true, false, not, List, codes, None, Some, ◌&&◌}
+use Rattle.std.specs.Prelude.{ℕ, List, codes, None, Some}
 use Rattle.std.specs.List.{find}
 use Rattle.std.specs.Option.{option_map, option_and_then}
 use Rattle.std.specs.declared.option.Option.{Option}
@@ -11,7 +11,7 @@ use Rattle.time_window.specs.declared.acl.TimeRule.{TimeRule}
 use Rattle.metadata_objects.specs.declared.generic.Generic.{Generic}
 use Rattle.metadata_objects.specs.declared.generic.Held.{Held}
 use Rattle.metadata_objects.specs.declared.generic.Held.TheVariants as held
-use Rattle.inheritance.specs.Effective.{is_of_kind}
+use Rattle.metadata_objects.specs.GenericList.{is_of_kind, is_unenforceable}
 
 -- what is held of the object of this type, if there is one
 abbrev pub held_in : List ℕ → List Generic → Option Held
@@ -59,14 +59,6 @@ ignored_of objects = option_and_then as_ignored (held_in (codes "mi.cache") obje
 
 abbrev pub ccid_of : List Generic → Option (List ℕ)
 ccid_of objects = option_and_then as_ccid (held_in (codes "mi.grouping") objects)
-
-abbrev pub is_understood : Held → Bool
-is_understood held.NotUnderstood = false
-is_understood _ = true
-
--- the object must be enforced and is not understood (RFC 8006, section 4.1.7)
-abbrev pub is_unenforceable : Generic → Bool
-is_unenforceable object = object.mandatory && not (is_understood object.held)
 
 -- the type of the first object that must be enforced and is not understood
 abbrev pub unenforceable_of : List Generic → Option (List ℕ)

@@ -1,3 +1,4 @@
 pub mod Chain
 pub mod Effective
 pub mod Held
+pub mod HostTable

@@ -6,7 +6,8 @@ ghost use Rattle.targets.specs.declared.target.Target.{Target};
 ghost use Rattle.metadata_objects.specs.LevelData.{LevelData, Index};
 ghost use Rattle.metadata_objects.specs.declared.generic.Generic.{Generic};
 ghost use Rattle.inheritance.specs.Chain.{matches_target, arrays_at, chain, AreLevels, IsChain};
-ghost use Rattle.inheritance.specs.Effective.{is_of_kind, innermost, all_objects, effective, AreOfTheirOwnTypes, AreInOrderFromOutside};
+ghost use Rattle.metadata_objects.specs.GenericList.{is_of_kind};
+ghost use Rattle.inheritance.specs.Effective.{innermost, all_objects, effective, AreOfTheirOwnTypes, AreInOrderFromOutside};
 
 /// The effective object of a type is the first of the type in the innermost array that has one; there is none where no
 /// array has one.

@@ -3,9 +3,11 @@
 #![tactic(auto)]
 
 mod chain;
+mod host_table;
 mod inherit;
 pub mod laws;
 mod objects;
 
-pub use inherit::effective;
+pub use host_table::HostTable;
+pub use inherit::{effective, effective_by};
 pub use objects::Effective;

@@ -2,12 +2,13 @@
 
 ghost use Rattle.std.specs.Prelude.{◌≡◌, IfSome, option_map, map};
 ghost use Rattle.std.specs.List.{find};
-ghost use Rattle.inheritance.specs.Effective.{is_of_kind};
-ghost use Rattle.inheritance.specs.Held.{is_understood, is_unenforceable, held_in, as_source, as_location, as_time, as_protocol, as_ignored, as_ccid, sources_of, location_of, time_of, protocol_of, ignored_of, ccid_of, unenforceable_of};
+ghost use Rattle.metadata_objects.specs.GenericList.{is_of_kind, kind_name};
+ghost use Rattle.inheritance.specs.Held.{held_in, as_source, as_location, as_time, as_protocol, as_ignored, as_ccid, sources_of, location_of, time_of, protocol_of, ignored_of, ccid_of, unenforceable_of};
 
+use crate::laws::effective_object_is_innermost;
 use cdni_base::{Ignored, SourceItemList, Text, TypeName};
 use location_acl::LocationAcl;
-use metadata_objects::{Generic, Held};
+use metadata_objects::{Generic, GenericList, Held, Understood};
 use protocol_acl::ProtocolAcl;
 use std::marker::Model;
 use time_window::TimeWindowAcl;
@@ -16,16 +17,23 @@ use time_window::TimeWindowAcl;
 /// the order of first appearance of their types from outside.
 #[derive(Drop)]
 pub struct Effective<'t> {
-    pub(crate) objects: Vec<&'t Generic>,
+    pub(crate) arrays: Vec<&'t GenericList>,
+    pub(crate) unenforceable: Option<&'t Generic>,
 }
 
 impl<'t> Model for Effective<'t> {
-    ghost use Rattle.std.specs.Prelude.{List, map};
+    ghost use Rattle.std.specs.Prelude.{◌≡◌, List, map, option_map};
+    ghost use Rattle.std.specs.List.{find};
+    ghost use Rattle.metadata_objects.specs.GenericList.{is_unenforceable};
     ghost use Rattle.metadata_objects.specs.declared.generic.Generic.{Generic};
+    ghost use Rattle.inheritance.specs.Effective.{effective};
 
     ghost Value = { List Generic };
 
-    ghost view = { λ e. map (λ object. object.now) e.objects.items };
+    ghost view = { λ e. effective (map (λ objects. objects.now) e.arrays.items) };
+
+    ghost invariant = { λ e. option_map (λ object. object.now) e.unenforceable ≡ find is_unenforceable
+        (effective (map (λ objects. objects.now) e.arrays.items)) };
 }
 
 impl<'t> Effective<'t> {
@@ -33,7 +41,7 @@ impl<'t> Effective<'t> {
     pub fn sources(&self) -> Option<&SourceItemList>
         ensures { option_map (λ held. held.now) result ≡ sources_of self.now }
     {
-        match self.held(b"mi.sourcemetadata") {
+        match self.held(Understood::Source) {
             Some(Held::Source(held)) => Some(held),
             _ => None,
         }
@@ -43,7 +51,7 @@ impl<'t> Effective<'t> {
     pub fn location(&self) -> Option<&LocationAcl>
         ensures { option_map (λ held. held.now) result ≡ location_of self.now }
     {
-        match self.held(b"mi.locationacl") {
+        match self.held(Understood::Location) {
             Some(Held::Location(held)) => Some(held),
             _ => None,
         }
@@ -53,7 +61,7 @@ impl<'t> Effective<'t> {
     pub fn time(&self) -> Option<&TimeWindowAcl>
         ensures { option_map (λ held. held.now) result ≡ time_of self.now }
     {
-        match self.held(b"mi.timewindowacl") {
+        match self.held(Understood::Time) {
             Some(Held::Time(held)) => Some(held),
             _ => None,
         }
@@ -63,7 +71,7 @@ impl<'t> Effective<'t> {
     pub fn protocol(&self) -> Option<&ProtocolAcl>
         ensures { option_map (λ held. held.now) result ≡ protocol_of self.now }
     {
-        match self.held(b"mi.protocolacl") {
+        match self.held(Understood::Protocol) {
             Some(Held::Protocol(held)) => Some(held),
             _ => None,
         }
@@ -73,7 +81,7 @@ impl<'t> Effective<'t> {
     pub fn ignored(&self) -> Option<&Ignored>
         ensures { option_map (λ held. held.now) result ≡ ignored_of self.now }
     {
-        match self.held(b"mi.cache") {
+        match self.held(Understood::Cache) {
             Some(Held::Cache(held)) => Some(held),
             _ => None,
         }
@@ -83,7 +91,7 @@ impl<'t> Effective<'t> {
     pub fn ccid(&self) -> Option<&Text>
         ensures { option_map (λ held. held.now) result ≡ ccid_of self.now }
     {
-        match self.held(b"mi.grouping") {
+        match self.held(Understood::Grouping) {
             Some(Held::Grouping(Some(ccid))) => Some(ccid),
             _ => None,
         }
@@ -93,26 +101,15 @@ impl<'t> Effective<'t> {
     pub fn unenforceable(&self) -> Option<&TypeName>
         ensures { option_map (λ kind. kind.now) result ≡ unenforceable_of self.now }
     {
-        match self.first_unenforceable() {
+        match self.unenforceable {
             Some(object) => Some(&object.kind),
             None => None,
         }
     }
 
-    fn first_unenforceable(&self) -> Option<&Generic>
-        ensures { option_map (λ object. object.now) result ≡ find is_unenforceable self.now }
-    {
-        'objects: for object in &self.objects {
-            if object.mandatory && !is_understood(&object.held) {
-                return Some(object);
-            }
-        }
-        None
-    }
-
     // what is held of the object of this type
-    fn held(&self, kind: &[u8]) -> Option<&Held>
-        ensures { option_map (λ held. held.now) result ≡ held_in kind.now self.now }
+    fn held(&self, kind: Understood) -> Option<&Held>
+        ensures { option_map (λ held. held.now) result ≡ held_in (kind_name kind) self.now }
     {
         match self.object(kind) {
             Some(object) => Some(&object.held),
@@ -120,24 +117,17 @@ impl<'t> Effective<'t> {
         }
     }
 
-    // the object of this type
-    fn object(&self, kind: &[u8]) -> Option<&Generic>
-        ensures { option_map (λ object. object.now) result ≡ find (is_of_kind kind.now) self.now }
+    // the object of this type: the first of the innermost array that has one
+    fn object(&self, kind: Understood) -> Option<&Generic>
+        ensures { option_map (λ object. object.now) result ≡ find (is_of_kind (kind_name kind)) self.now }
     {
-        'objects: for object in &self.objects {
-            if object.kind.is(kind) {
-                return Some(object);
+        effective_object_is_innermost();
+        let mut found = None;
+        'arrays: for objects in &self.arrays {
+            if let Some(object) = objects.first(kind) {
+                found = Some(object);
             }
         }
-        None
-    }
-}
-
-fn is_understood(held: &Held) -> bool
-    ensures { result ≡ is_understood held.now }
-{
-    match held {
-        Held::NotUnderstood => false,
-        _ => true,
+        found
     }
 }

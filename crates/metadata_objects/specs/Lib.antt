@@ -1,6 +1,7 @@
 pub mod Cache
 pub mod Coding
 pub mod Generic
+pub mod GenericList
 pub mod Host
 pub mod Items
 pub mod Level

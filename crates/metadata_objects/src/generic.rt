@@ -7,11 +7,12 @@ ghost use Rattle.metadata_objects.specs.Generic.{kind_of, understood, understood
 
 use crate::cache::{grouping_of, ignored_of};
 use crate::fault::MetaFault;
+use crate::generic_list::GenericList;
 use crate::lists::{protocols_of, times_of};
 use crate::location::locations_of;
 use crate::object::{flag, one_more, out_of_range, refuse_link, text};
 use crate::source::sources_of;
-use cdni_base::{Ignored, Listing, SourceItemList, Text, TypeName};
+use cdni_base::{Ignored, SourceItemList, Text, TypeName};
 use json_read::{JsonPath, JsonValue, need};
 use location_acl::LocationAcl;
 use protocol_acl::ProtocolAcl;
@@ -50,9 +51,6 @@ pub enum Held {
     NotUnderstood,
 }
 
-/// A list of metadata objects.
-pub type GenericList = Listing<Generic>;
-
 // the objects of the list at `path`, after `count` objects
 pub(crate) fn generics_at<V: JsonValue>(
     alloc: Global,
@@ -62,7 +60,7 @@ pub(crate) fn generics_at<V: JsonValue>(
 ) -> Result<(GenericList, u32), MetaFault>
     ensures { Gives (λ x. (x.0, x.1)) result (generics_of path.now count (items_of (map V.seen items.now))) }
 {
-    let mut list = Listing::new(alloc);
+    let mut list = GenericList::new(alloc);
     let mut so_far = count;
     'items: for i in 0..items.len() {
         let place = path.item(alloc, i)?;

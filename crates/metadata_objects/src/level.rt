@@ -8,10 +8,10 @@ ghost use Rattle.metadata_objects.specs.LevelData.{level_view, path_view, paths_
 ghost use Rattle.metadata_objects.specs.Level.{metadata_of, paths_of, level_with, needed_level, pattern_of, needed_pattern, path_match_with, path_match_of};
 
 use crate::fault::MetaFault;
-use crate::generic::{GenericList, generics_at};
+use crate::generic::generics_at;
+use crate::generic_list::GenericList;
 use crate::host::NESTING_MAX;
 use crate::object::{flag, one_more, out_of_range, refuse_link, text};
-use cdni_base::Listing;
 use json_read::{JsonPath, JsonValue, list_at, maybe, need};
 use pattern_match::{MAX_PATTERN_LEN, Pattern, PatternFault};
 use std::alloc::Global;
@@ -86,7 +86,7 @@ fn metadata_at<V: JsonValue>(
     ensures { Gives (λ x. (x.0, x.1)) result (metadata_of path.now count (V.seen value.now)) }
 {
     let Some(list) = maybe(alloc, value, path, "metadata")? else {
-        return Ok((Listing::new(alloc), count));
+        return Ok((GenericList::new(alloc), count));
     };
     let path = path.child(alloc, "metadata")?;
     let items = list_at(alloc, list, &path)?;

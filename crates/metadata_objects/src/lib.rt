@@ -4,6 +4,7 @@
 mod cache;
 mod fault;
 mod generic;
+mod generic_list;
 mod host;
 mod items;
 pub mod laws;
@@ -16,7 +17,8 @@ mod tree;
 
 pub use cache::CCID_MAX;
 pub use fault::MetaFault;
-pub use generic::{Generic, GenericList, Held};
+pub use generic::{Generic, Held};
+pub use generic_list::{GenericList, Understood};
 pub use host::{DOCUMENT_MAX, HostIndex, HostMatch, HostMatchList, NESTING_MAX};
 pub use level::{Level, PathMatch, PathMatchList};
 pub use lists::SECONDS_MAX;

@@ -1,6 +1,6 @@
 use Rattle.std.proofs.Common.{◌≡◌, drop}
 use Rattle.std.specs.List.{find}
-use Rattle.inheritance.specs.Effective.{is_of_kind}
+use Rattle.metadata_objects.specs.GenericList.{is_of_kind}
 use Rattle.inheritance.proofs.inherit.first_of_kind.Given as goal
 
 abbrev pub invariant-objects : goal.invariant-objects

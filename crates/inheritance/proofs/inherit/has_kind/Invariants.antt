@@ -1,6 +1,6 @@
 use Rattle.std.proofs.Common.{◌≡◌, map, drop}
 use Rattle.std.specs.List.{list_any}
-use Rattle.inheritance.specs.Effective.{is_of_kind}
+use Rattle.metadata_objects.specs.GenericList.{is_of_kind}
 use Rattle.inheritance.proofs.inherit.has_kind.Given as goal
 
 abbrev pub invariant-objects : goal.invariant-objects

@@ -12,8 +12,8 @@ pub arrays-preserved : goal.arrays-preserved
 arrays-preserved c =
     let below : c.arrays.i < length (map (λ objects. objects.now) c.args.arrays.now) = omega (arith, length-map c.args.arrays.now (λ objects. objects.now)) in
     let here = ap (λ objects. objects.now) c.index-arrays-i.is ∙ sym (get_or-map (λ objects. objects.now) c.args.arrays.now c.arrays.i c.index-arrays-i.result) in
-    rw (array_more (map (λ objects. objects.now) c.args.arrays.now) c.arrays.i c.index-arrays-i.result.now below here)
-    (c.in_ok-add_types.ensures (all_objects (take c.arrays.i (map (λ objects. objects.now) c.args.arrays.now))) c.arrays.invariant)
+    let h = rw c.as_slice.ensures at c.in_ok-add_types.ensures (all_objects (take c.arrays.i (map (λ objects. objects.now) c.args.arrays.now))) c.arrays.invariant in
+    rw (array_more (map (λ objects. objects.now) c.args.arrays.now) c.arrays.i c.index-arrays-i.result.now below here) h
 
 pub returns : goal.returns
 returns c =

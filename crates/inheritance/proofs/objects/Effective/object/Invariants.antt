@@ -1,7 +1,8 @@
-use Rattle.std.proofs.Common.{◌≡◌, map, drop}
-use Rattle.std.specs.List.{find}
-use Rattle.inheritance.specs.Effective.{is_of_kind}
+use Rattle.std.proofs.Common.{◌≡◌, map, drop, option_map}
+use Rattle.std.specs.Option.{option_or}
+use Rattle.metadata_objects.specs.GenericList.{kind_name}
+use Rattle.inheritance.specs.Effective.{innermost}
 use Rattle.inheritance.proofs.objects.Effective.object.Given as goal
 
-abbrev pub invariant-objects : goal.invariant-objects
-invariant-objects l = find (is_of_kind l.kind) (map (λ object. object.now) (drop l.object-index l.object-items)) ≡ find (is_of_kind l.kind) l.self
+abbrev pub invariant-arrays : goal.invariant-arrays
+invariant-arrays l = option_or (innermost (kind_name l.kind) (map (λ objects. objects.now) (drop l.objects-index l.objects-items))) (option_map (λ object. object.now) l.found) ≡ innermost (kind_name l.kind) (map (λ objects. objects.now) l.objects-items)

@@ -1,5 +1,5 @@
 -- What a decision says of what is kept.
-use Rattle.std.proofs.Common.{◌≡◌, ℕ, List, None, Some, refl, sym, ap}
+use Rattle.std.proofs.Common.{◌≡◌, List, None, Some, refl, ap}
 use Rattle.std.specs.Option.{is_some}
 use Rattle.std.specs.declared.option.Option.{Option}
 use Rattle.cdni_base.specs.declared.rule.Rule.{Rule}
@@ -9,7 +9,7 @@ use Rattle.history.specs.World.{Kept}
 use Rattle.metadata_objects.specs.LevelData.{Index}
 use Rattle.metadata_objects.specs.declared.generic.Generic.{Generic}
 use Rattle.targets.specs.declared.target.Target.{Target}
-use Rattle.delivery_core.specs.Edge.{IsOfKept, allowed, allowed_by, decided}
+use Rattle.delivery_core.specs.Edge.{IsOfKept, allowed_by, decided}
 
 allowed_of : (kept : List Kept) (objects : List Generic) (target : Target) (found : Option Kept) → kept_of (key_by objects target) kept ≡ found
     → IsOfKept kept (allowed_by objects target found)

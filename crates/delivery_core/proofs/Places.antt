@@ -1,5 +1,5 @@
 -- What a call adds to what is open.
-use Rattle.std.proofs.Common.{◌≡◌, ℕ, ◌+◌, ◌≤◌, [], ◌∷◌, ◌++◌, length, true, false, arith, None, Some, Option}
+use Rattle.std.proofs.Common.{◌≡◌, ℕ, ◌+◌, ◌≤◌, [], ◌∷◌, true, false, arith, None, Some, Option}
 use Rattle.std.proofs.lemmas.List.{length-append}
 use Rattle.cdni_base.specs.declared.asked.Asked.{Asked}
 use Rattle.history.specs.After.{admission}

@@ -9,14 +9,17 @@ use Rattle.targets.specs.declared.endpoint.Endpoint.{Endpoint}
 use Rattle.targets.specs.declared.target.Target.{Target}
 use Rattle.verdict.specs.Plan.{plan_of}
 use Rattle.history.specs.Metadata.{forbidden, is_skipped_by, objects_of, objects_in, rule_in}
+use Rattle.delivery_core.specs.Installed.{Seen, index_in, invalid_in}
 use Rattle.delivery_core.specs.declared.decision.Judged.{Judged}
 use Rattle.delivery_core.specs.declared.decision.Judged.TheVariants.{Allowed, Forbidden}
 
 -- forbidden by the first rule that does, or allowed by the effective metadata
-abbrev pub IsJudged : Option Index → Option ℕ → Asked → Place → ℕ → Judged → Type 0
-IsJudged index invalid asked place moment (Allowed objects) =
-    (forbidden index invalid asked place moment ≡ None) × (objects_of index asked.target ≡ objects)
-IsJudged index invalid asked place moment (Forbidden rule) = forbidden index invalid asked place moment ≡ Some rule
+abbrev pub IsJudged : Option Seen → Asked → Place → ℕ → Judged → Type 0
+IsJudged seen asked place moment (Allowed objects) =
+    (forbidden (index_in seen) (invalid_in seen) asked place moment ≡ None)
+    × (objects_of (index_in seen) asked.target ≡ objects)
+IsJudged seen asked place moment (Forbidden rule) =
+    forbidden (index_in seen) (invalid_in seen) asked place moment ≡ Some rule
 
 -- the same of what is installed, the method apart
 abbrev pub IsJudgedBy : Index → Option ℕ → Asked → Place → ℕ → Judged → Type 0
@@ -26,11 +29,15 @@ IsJudgedBy index invalid asked place moment (Forbidden rule) = rule_in index inv
 
 -- ---- of a URL that a trigger would fetch
 
+-- its effective metadata, where no trigger has made this metadata invalid and a HostMatch matches
+abbrev pub effective_in : Index → Option ℕ → Target → Option (List Generic)
+effective_in index (Some trigger) url = None
+effective_in index None url = objects_in index url
+
 -- its effective metadata, where valid metadata is installed and a HostMatch matches
-abbrev pub effective_at : Option Index → Option ℕ → Target → Option (List Generic)
-effective_at None invalid url = None
-effective_at (Some index) (Some trigger) url = None
-effective_at (Some index) None url = objects_in index url
+abbrev pub effective_at : Option Seen → Target → Option (List Generic)
+effective_at None url = None
+effective_at (Some seen) url = effective_in seen.tree.index seen.invalid url
 
 -- where its content can be had by this effective metadata, unless it is skipped
 abbrev pub unskipped_plan : List Generic → Option (List Endpoint)

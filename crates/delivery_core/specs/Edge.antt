@@ -23,7 +23,7 @@ use Rattle.history.specs.Metadata.{ccid_at, forbidden, is_skipped, key_at, key_b
 use Rattle.history.specs.World.{Kept}
 use Rattle.history.specs.declared.begun.Admission.{Admission}
 use Rattle.history.specs.declared.begun.Fetching.{Fetching}
-use Rattle.delivery_core.specs.Installed.{Seen, invalidated}
+use Rattle.delivery_core.specs.Installed.{Seen, index_in, invalid_in, invalidated}
 use Rattle.shelf.specs.Open.{unnamed}
 use Rattle.delivery_core.specs.Refreshes.{Refreshing, first_noted, noted_of, with_starts}
 use Rattle.shelf.specs.KeptShelf.{is_gained, brought, struck, unhit}
@@ -54,12 +54,18 @@ pub record EdgeView : Type 0 where
   pub started : ℕ  -- starts that there were
   pub installed : ℕ  -- installations
 
+-- what is seen of an edge, and what it has in memory of what fetches brought: the kept objects, and those that starts have
+-- hit and that have not left yet
+pub record Holding : Type 0 where
+  pub seen : EdgeView
+  pub held : List Kept
+
 abbrev pub index_of : EdgeView → Option Index
-index_of v = option_map (λ seen. seen.tree.index) v.tree
+index_of v = index_in v.tree
 
 -- the first trigger that has made the installed metadata invalid
 abbrev pub invalid_of : EdgeView → Option ℕ
-invalid_of v = option_and_then (λ seen. seen.invalid) v.tree
+invalid_of v = invalid_in v.tree
 
 -- ---- a request
 

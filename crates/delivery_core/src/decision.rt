@@ -1,18 +1,17 @@
 //! What is decided of a request by the metadata and by what is kept.
 
 ghost use Rattle.std.specs.Prelude.{◌≡◌, IfOk, option_map, None};
-ghost use Rattle.metadata_objects.specs.LevelData.{index_view};
 ghost use Rattle.inheritance.specs.Held.{ccid_of};
 ghost use Rattle.history.specs.Metadata.{is_served, key_by};
-ghost use Rattle.delivery_core.specs.Decision.{IsJudged, IsJudgedBy, effective_at, unskipped_plan};
+ghost use Rattle.delivery_core.specs.Decision.{IsJudged, IsJudgedBy, effective_at, effective_in, unskipped_plan};
 
+use crate::installed::Installed;
 use cdni_base::{
     Asked, Body, EndpointList, Ignored, Key, Moment, Rule, Target, Text, TypeName, url_key,
 };
 use history::Fetching;
-use inheritance::{Effective, effective};
+use inheritance::Effective;
 use location_acl::Place;
-use metadata_objects::HostIndex;
 use std::alloc::{AllocError, Global};
 use verdict::{Verdict, judge, plan};
 
@@ -61,20 +60,19 @@ pub(crate) enum Judged<'t> {
 #[tactic(auto, unfolding(history::specs::Metadata::forbidden))]
 pub(crate) fn judge_request<'t>(
     alloc: Global,
-    index: Option<&'t HostIndex>,
-    invalid: Option<u64>,
+    installed: Option<&'t Installed>,
     asked: &Asked,
     place: &Place,
     moment: Moment,
 ) -> Result<Judged<'t>, AllocError>
-    ensures { IfOk result (λ judged. IsJudged (option_map (λ i. index_view i.now) index.entry)
-        invalid asked.now place.now moment judged) }
+    ensures { IfOk result (λ judged. IsJudged (option_map (λ i. i.now) installed.entry)
+        asked.now place.now moment judged) }
 {
     if !is_served(&asked.method) {
         return Ok(Judged::Forbidden(Rule::Method));
     }
-    match index {
-        Some(index) => judge_by(alloc, index, invalid, asked, place, moment),
+    match installed {
+        Some(installed) => judge_by(alloc, installed, asked, place, moment),
         None => Ok(Judged::Forbidden(Rule::NoMetadata)),
     }
 }
@@ -89,18 +87,18 @@ fn is_served(method: &Text) -> bool
 // the same by this metadata
 fn judge_by<'t>(
     alloc: Global,
-    index: &'t HostIndex,
-    invalid: Option<u64>,
+    installed: &'t Installed,
     asked: &Asked,
     place: &Place,
     moment: Moment,
 ) -> Result<Judged<'t>, AllocError>
-    ensures { IfOk result (λ judged. IsJudgedBy (index_view index.now) invalid asked.now place.now moment judged) }
+    ensures { IfOk result (λ judged. IsJudgedBy installed.now.tree.index installed.now.invalid asked.now place.now
+        moment judged) }
 {
-    if let Some(trigger) = invalid {
+    if let Some(trigger) = installed.invalid() {
         return Ok(Judged::Forbidden(Rule::MetadataInvalid { trigger }));
     }
-    let Some(effective) = effective(alloc, index, &asked.target)? else {
+    let Some(effective) = installed.effective(alloc, &asked.target)? else {
         return Ok(Judged::Forbidden(Rule::NoHost));
     };
     match judge(alloc, &effective, asked.protocol, place, moment)? {
@@ -132,16 +130,29 @@ pub(crate) fn fetching_by(
 /// Want of memory.
 pub(crate) fn effective_at<'t>(
     alloc: Global,
-    index: Option<&'t HostIndex>,
-    invalid: Option<u64>,
+    installed: Option<&'t Installed>,
+    url: &Target,
+) -> Result<Option<Effective<'t>>, AllocError>
+    ensures { IfOk result (λ found. found ≡ effective_at (option_map (λ i. i.now) installed.entry) url.now) }
+{
+    match installed {
+        Some(installed) => effective_in(alloc, installed, url),
+        None => Ok(None),
+    }
+}
+
+// the same of this metadata, unless a trigger has made it invalid
+fn effective_in<'t>(
+    alloc: Global,
+    installed: &'t Installed,
     url: &Target,
 ) -> Result<Option<Effective<'t>>, AllocError>
     ensures { IfOk result (λ found. found
-        ≡ effective_at (option_map (λ i. index_view i.now) index.entry) invalid url.now) }
+        ≡ effective_in installed.now.tree.index installed.now.invalid url.now) }
 {
-    match (index, invalid) {
-        (Some(index), None) => effective(alloc, index, url),
-        _ => Ok(None),
+    match installed.invalid() {
+        Some(_) => Ok(None),
+        None => installed.effective(alloc, url),
     }
 }
 

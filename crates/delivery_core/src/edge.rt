@@ -1,11 +1,11 @@
 //! The edge: what is installed, kept and open.
 
-ghost use Rattle.std.specs.Prelude.{◌≡◌, ◌≤◌, ◌<◌, ◌^◌, ◌+◌, ◌++◌, ◌∷◌, [], Ok, IfOk, IfNone, OnErr, OnOk, OnSome, None, false, true, is_some, MatchOption, length, option_map};
+ghost use Rattle.std.specs.Prelude.{◌≡◌, ◌≤◌, ◌<◌, ◌^◌, ◌+◌, ◌-◌, ◌++◌, ◌∷◌, [], Ok, IfOk, IfNone, OnErr, OnOk, OnSome, None, false, true, is_some, MatchOption, length, option_map};
 ghost use Rattle.std.specs.List.{find};
 ghost use Rattle.history.specs.After.{admission, is_secure, row_of};
-ghost use Rattle.history.specs.Kept.{kept_of};
-ghost use Rattle.metadata_objects.specs.LevelData.{index_view};
+ghost use Rattle.history.specs.Kept.{kept_of, total};
 ghost use Rattle.metadata_objects.specs.Tree.{tree_view};
+ghost use Rattle.shelf.specs.KeptShelf.{IsPartOf, IsPartOfOrKept};
 ghost use Rattle.shelf.specs.Open.{is_named};
 ghost use Rattle.delivery_core.specs.Refreshes.{end_reply};
 ghost use Rattle.delivery_core.specs.Edge.{allowed, of_collection, resources_of};
@@ -22,7 +22,7 @@ use cdni_log::RowList;
 use history::{Admission, Fetching};
 use inheritance::Effective;
 use location_acl::Place;
-use metadata_objects::{HostIndex, Tree};
+use metadata_objects::Tree;
 use object_cache::Object;
 use shelf::Shelf;
 use std::alloc::{AllocError, Global};
@@ -32,7 +32,8 @@ use upstream_gate::Outcome;
 use verdict::plan;
 
 /// The installed metadata, what is kept of fetches, the deliveries, fetches and refreshes that are open, and the rows of
-/// finished deliveries that no log file has. It is seen as what a history leaves of these, without positions. Each call
+/// finished deliveries that no log file has. It is seen as what a history leaves of these, without positions, and as what
+/// is in memory of what fetches brought, taken back or not. Each call
 /// takes constant time on average, whatever is kept and open, but for what the metadata of one target takes, the starts of
 /// triggers that an object was not tried with, and the objects that leave; where there were starts, the first fetch after
 /// them that is kept goes through what is kept.
@@ -48,9 +49,9 @@ pub struct Edge {
 
 impl Model for Edge {
     ghost use Rattle.std.specs.Prelude.{◌+◌, ◌≤◌, ◌≡◌, length};
-    ghost use Rattle.delivery_core.specs.Edge.{EdgeView};
+    ghost use Rattle.delivery_core.specs.Edge.{Holding};
 
-    ghost Value = { EdgeView };
+    ghost Value = { Holding };
 
     ghost use Rattle.std.specs.Coded.{codes, coded_list, coded×, coded_ℕ};
     ghost use Rattle.metadata_objects.specs.Coding.{level_code};
@@ -64,19 +65,22 @@ impl Model for Edge {
     ) };
 
     ghost view = { λ e. record {
-      limits = e.limits;
-      tree = e.installed;
-      kept = e.shelf.kept;
-      fetches = e.shelf.fetches;
-      deliveries = e.records.deliveries;
-      refreshes = e.refreshes.refreshes;
-      unfiled = e.records.unfiled;
-      fetched = e.shelf.fetched;
-      delivered = e.records.delivered;
-      logged = e.records.logged;
-      refreshed = e.refreshes.refreshed;
-      started = e.refreshes.started;
-      installed = e.installations;
+      seen = record {
+        limits = e.limits;
+        tree = e.installed;
+        kept = e.shelf.kept;
+        fetches = e.shelf.fetches;
+        deliveries = e.records.deliveries;
+        refreshes = e.refreshes.refreshes;
+        unfiled = e.records.unfiled;
+        fetched = e.shelf.fetched;
+        delivered = e.records.delivered;
+        logged = e.records.logged;
+        refreshed = e.refreshes.refreshed;
+        started = e.refreshes.started;
+        installed = e.installations;
+      };
+      held = e.shelf.held;
     } };
 
     ghost invariant = { λ e. (e.shelf.limit ≡ e.limits.cache)
@@ -85,14 +89,14 @@ impl Model for Edge {
 }
 
 impl Edge {
-    ghost use Rattle.delivery_core.specs.Edge.{EdgeView, IsOfKept, empty, index_of, invalid_of, full_count, decision_of, admit_reply, admit_after, entered_reply, entered, with_denial, with_hit, with_miss, fetch_end_reply, fetch_end_after, finish_reply, finish_after, next_due, begin_reply, begin_after, newer, install_reply, install_after, without_refresh, refresh_end_reply, refresh_end_after, start_after, skips, plan_reply, plan_after, sourced};
+    ghost use Rattle.delivery_core.specs.Edge.{IsOfKept, empty, full_count, decision_of, admit_reply, admit_after, entered_reply, entered, with_denial, with_hit, with_miss, fetch_end_reply, fetch_end_after, finish_reply, finish_after, next_due, begin_reply, begin_after, newer, install_reply, install_after, without_refresh, refresh_end_reply, refresh_end_after, start_after, skips, plan_reply, plan_after, sourced};
 
     /// An edge with nothing installed, kept or open.
     ///
     /// # Errors
     /// Want of memory.
     pub fn new(alloc: Global, limits: &Limits) -> Result<Edge, AllocError>
-        ensures { IfOk result (λ edge. edge ≡ empty limits.now) }
+        ensures { IfOk result (λ edge. edge ≡ record { seen = empty limits.now; held = [] }) }
     {
         Ok(Edge {
             limits: *limits,
@@ -119,15 +123,17 @@ impl Edge {
         place: Place,
         moment: Moment,
     ) -> Result<Admitted, AllocError>
-        requires delivered { self.old.delivered ≤ 2 ^ 62 }
-        requires fetched { self.old.fetched ≤ 2 ^ 62 }
-        ensures reply { IfOk result (λ r. r ≡ admit_reply self.old opened asked place moment) }
-        ensures after { IfOk result (λ r. self.new ≡ admit_after self.old pass opened asked place moment) }
+        requires delivered { self.old.seen.delivered ≤ 2 ^ 62 }
+        requires fetched { self.old.seen.fetched ≤ 2 ^ 62 }
+        ensures reply { IfOk result (λ r. r ≡ admit_reply self.old.seen opened asked place moment) }
+        ensures after { IfOk result (λ r. self.new.seen ≡ admit_after self.old.seen pass opened asked place moment) }
+        ensures held { IsPartOf self.new.held self.old.held }
         ensures err { OnErr result (self.new ≡ self.old) }
     {
         if let Some(count) = self.full_count(opened) {
             return Ok(Admitted::Full { count });
         }
+        self.make_table(alloc)?;
         let decision = self.decide(alloc, &asked, &place, moment)?;
         let what = admission_of(alloc, asked, place, moment)?;
         self.enter(alloc, pass, what, decision)
@@ -135,7 +141,7 @@ impl Edge {
 
     // the count that is at its limit
     fn full_count(&self, opened: u64) -> Option<u64>
-        ensures { result ≡ full_count self.now opened }
+        ensures { result ≡ full_count self.now.seen opened }
     {
         let pending = self.records.pending();
         if pending == self.limits.rows {
@@ -156,9 +162,9 @@ impl Edge {
         place: &Place,
         moment: Moment,
     ) -> Result<Decision, AllocError>
-        ensures { IfOk result (λ decision. decision ≡ decision_of self.now asked.now place.now moment) }
+        ensures { IfOk result (λ decision. decision ≡ decision_of self.now.seen asked.now place.now moment) }
     {
-        match judge_request(alloc, self.index(), self.invalid(), asked, place, moment)? {
+        match judge_request(alloc, self.installed(), asked, place, moment)? {
             Judged::Forbidden(rule) => Ok(Decision::Deny { rule }),
             Judged::Allowed(effective) => {
                 decide_allowed(alloc, &self.shelf, &effective, &asked.target)
@@ -167,22 +173,22 @@ impl Edge {
     }
 
     // the installed metadata
-    fn index(&self) -> Option<&HostIndex>
-        ensures { option_map (λ i. index_view i.now) result ≡ index_of self.now }
+    fn installed(&self) -> Option<&Installed>
+        ensures { option_map (λ i. i.now) result ≡ self.now.seen.tree }
     {
         match &self.installed {
-            Some(installed) => Some(installed.index()),
+            Some(installed) => Some(installed),
             None => None,
         }
     }
 
-    // the first trigger that has made it invalid
-    fn invalid(&self) -> Option<u64>
-        ensures { result ≡ invalid_of self.now }
+    // makes the table of the hosts of the installed metadata, unless it was made
+    fn make_table(&mut self, alloc: Global) -> Result<(), AllocError>
+        ensures { self.new ≡ self.old }
     {
-        match &self.installed {
-            Some(installed) => installed.invalid(),
-            None => None,
+        match &mut self.installed {
+            Some(installed) => installed.make_table(alloc),
+            None => Ok(()),
         }
     }
 
@@ -194,11 +200,12 @@ impl Edge {
         what: Admission,
         decision: Decision,
     ) -> Result<Admitted, AllocError>
-        requires delivered { self.old.delivered ≤ 2 ^ 62 }
-        requires fetched { self.old.fetched ≤ 2 ^ 62 }
-        requires kept { IsOfKept self.old.kept decision }
-        ensures reply { IfOk result (λ r. r ≡ entered_reply self.old decision) }
-        ensures after { OnOk result (self.new ≡ entered self.old pass what decision) }
+        requires delivered { self.old.seen.delivered ≤ 2 ^ 62 }
+        requires fetched { self.old.seen.fetched ≤ 2 ^ 62 }
+        requires kept { IsOfKept self.old.seen.kept decision }
+        ensures reply { IfOk result (λ r. r ≡ entered_reply self.old.seen decision) }
+        ensures after { OnOk result (self.new.seen ≡ entered self.old.seen pass what decision) }
+        ensures held { IsPartOf self.new.held self.old.held }
         ensures err { OnErr result (self.new ≡ self.old) }
     {
         match decision {
@@ -218,9 +225,10 @@ impl Edge {
         what: Admission,
         rule: Rule,
     ) -> Result<Admitted, AllocError>
-        requires { self.old.delivered ≤ 2 ^ 62 }
-        ensures reply { IfOk result (λ r. r ≡ Admitted.Denied (self.old.delivered + 1) rule) }
-        ensures after { OnOk result (self.new ≡ with_denial self.old pass what) }
+        requires { self.old.seen.delivered ≤ 2 ^ 62 }
+        ensures reply { IfOk result (λ r. r ≡ Admitted.Denied (self.old.seen.delivered + 1) rule) }
+        ensures after { OnOk result (self.new.seen ≡ with_denial self.old.seen pass what) }
+        ensures held { IsPartOf self.new.held self.old.held }
         ensures err { OnErr result (self.new ≡ self.old) }
     {
         self.records.reserve(alloc)?;
@@ -237,11 +245,12 @@ impl Edge {
         key: Key,
         found: Found,
     ) -> Result<Admitted, AllocError>
-        requires delivered { self.old.delivered ≤ 2 ^ 62 }
-        requires kept { is_some (kept_of key self.old.kept) ≡ true }
+        requires delivered { self.old.seen.delivered ≤ 2 ^ 62 }
+        requires kept { is_some (kept_of key self.old.seen.kept) ≡ true }
         ensures reply { IfOk result (λ r. r
-            ≡ Admitted.Hit (self.old.delivered + 1) found.fetch found.kind found.body) }
-        ensures after { OnOk result (self.new ≡ with_hit self.old pass what key) }
+            ≡ Admitted.Hit (self.old.seen.delivered + 1) found.fetch found.kind found.body) }
+        ensures after { OnOk result (self.new.seen ≡ with_hit self.old.seen pass what key) }
+        ensures held { IsPartOf self.new.held self.old.held }
         ensures err { OnErr result (self.new ≡ self.old) }
     {
         self.records.reserve(alloc)?;
@@ -265,20 +274,20 @@ impl Edge {
         ccid: Option<Text>,
         plan: EndpointList,
     ) -> Result<Admitted, AllocError>
-        requires delivered { self.old.delivered ≤ 2 ^ 62 }
-        requires fetched { self.old.fetched ≤ 2 ^ 62 }
-        requires kept { kept_of key self.old.kept ≡ None }
+        requires delivered { self.old.seen.delivered ≤ 2 ^ 62 }
+        requires fetched { self.old.seen.fetched ≤ 2 ^ 62 }
+        requires kept { kept_of key self.old.seen.kept ≡ None }
         ensures reply { IfOk result (λ r. r
-            ≡ Admitted.Miss (self.old.delivered + 1) (self.old.fetched + 1) plan) }
-        ensures after { OnOk result (self.new ≡ with_miss self.old pass (of_collection what ccid false)
+            ≡ Admitted.Miss (self.old.seen.delivered + 1) (self.old.seen.fetched + 1) plan) }
+        ensures after { OnOk result (self.new.seen ≡ with_miss self.old.seen pass (of_collection what ccid false)
             (record { key = key; ccid = ccid })) }
+        ensures held { IsPartOf self.new.held self.old.held }
         ensures err { OnErr result (self.new ≡ self.old) }
     {
         self.records.reserve(alloc)?;
         let copy = copy_of(&ccid)?;
         let what = of_collection(what, copy, false);
-        self.shelf.forget(&key);
-        let fetch = self.shelf.open(alloc, pass, Fetching { key, ccid })?;
+        let fetch = self.shelf.open_missed(alloc, pass, Fetching { key, ccid })?;
         let delivery = self.records.begin(pass, what);
         Ok(Admitted::Miss {
             delivery,
@@ -290,9 +299,10 @@ impl Edge {
     /// Ends the fetch of this number, if this pass opened it, and keeps what it brought where it is to be kept. It takes
     /// no memory. The answer is whether something was kept; `None` where no such fetch is open.
     pub fn fetch_end(&mut self, pass: u32, fetch: u64, outcome: Outcome) -> Option<bool>
-        ensures reply { result ≡ fetch_end_reply self.old outcome (find (is_named fetch pass) self.old.fetches) }
-        ensures after { self.new ≡ fetch_end_after self.old pass fetch outcome
-            (find (is_named fetch pass) self.old.fetches) }
+        ensures reply { result ≡ fetch_end_reply self.old.seen outcome (find (is_named fetch pass) self.old.seen.fetches) }
+        ensures after { self.new.seen ≡ fetch_end_after self.old.seen pass fetch outcome
+            (find (is_named fetch pass) self.old.seen.fetches) }
+        ensures held { IsPartOfOrKept self.new.held self.old.held self.new.seen.kept }
         ensures closed { IfNone result (self.new ≡ self.old) }
     {
         self.shelf.end(pass, fetch, outcome)
@@ -310,9 +320,10 @@ impl Edge {
         entity: u64,
         moment: Moment,
     ) -> Option<u64>
-        ensures reply { result ≡ finish_reply self.old (find (is_named delivery pass) self.old.deliveries) }
-        ensures after { self.new ≡ finish_after self.old pass delivery (row_of status total entity moment)
-            (find (is_named delivery pass) self.old.deliveries) }
+        ensures reply { result ≡ finish_reply self.old.seen (find (is_named delivery pass) self.old.seen.deliveries) }
+        ensures after { self.new.seen ≡ finish_after self.old.seen pass delivery (row_of status total entity moment)
+            (find (is_named delivery pass) self.old.seen.deliveries) }
+        ensures held { self.new.held ≡ self.old.held }
         ensures closed { IfNone result (self.new ≡ self.old) }
     {
         let ending = Ending {
@@ -326,21 +337,57 @@ impl Edge {
 
     /// The rows that no log file has, in the order of their deliveries' ends.
     pub fn unfiled(&self) -> &RowList
-        ensures { result.now.items ≡ self.now.unfiled }
+        ensures { result.now.items ≡ self.now.seen.unfiled }
     {
         self.records.unfiled()
     }
 
     /// A log file has all rows now.
     pub fn rows_filed(&mut self)
-        ensures { self.new ≡ record self.old { unfiled = [] } }
+        ensures { self.new ≡ record self.old { seen = record self.old.seen { unfiled = [] } } }
     {
         self.records.file_rows();
     }
 
+    /// The lengths of all bodies that are in memory together, in bytes: of the kept objects, and of those that starts have
+    /// taken back and that have not left yet.
+    pub fn held(&self) -> u64
+        ensures { result ≡ total self.now.held }
+    {
+        self.shelf.held()
+    }
+
+    /// How many rows log files have.
+    pub fn filed(&self) -> u64
+        ensures { result ≡ self.now.seen.logged - length self.now.seen.unfiled }
+    {
+        self.records.filed()
+    }
+
+    /// Whether the delivery of this number is open, and this pass began it.
+    pub fn has_delivery(&self, pass: u32, delivery: u64) -> bool
+        ensures { result ≡ is_some (find (is_named delivery pass) self.now.seen.deliveries) }
+    {
+        self.records.is_open(pass, delivery)
+    }
+
+    /// Whether the fetch of this number is open, and this pass began it.
+    pub fn has_fetch(&self, pass: u32, fetch: u64) -> bool
+        ensures { result ≡ is_some (find (is_named fetch pass) self.now.seen.fetches) }
+    {
+        self.shelf.is_open(pass, fetch)
+    }
+
+    /// Whether the refresh of this number is open, and this pass began it.
+    pub fn has_refresh(&self, pass: u32, refresh: u64) -> bool
+        ensures { result ≡ is_some (find (is_named refresh pass) self.now.seen.refreshes) }
+    {
+        self.refreshes.is_open(pass, refresh)
+    }
+
     /// The limits with which it was made.
     pub fn limits(&self) -> Limits
-        ensures { result ≡ self.now.limits }
+        ensures { result ≡ self.now.seen.limits }
     {
         self.limits
     }
@@ -348,7 +395,7 @@ impl Edge {
     /// The moment at which the next refresh is due, where that is later than this one, valid metadata is installed and
     /// nothing is forced.
     pub fn not_due(&self, moment: Moment) -> Option<Moment>
-        ensures { result ≡ next_due self.now moment }
+        ensures { result ≡ next_due self.now.seen moment }
     {
         let Some(installed) = &self.installed else {
             return None;
@@ -375,9 +422,10 @@ impl Edge {
         forced: bool,
         moment: Moment,
     ) -> Result<Began, AllocError>
-        requires { self.old.refreshed ≤ 2 ^ 62 }
-        ensures reply { IfOk result (λ r. r ≡ begin_reply self.old forced (next_due self.old moment)) }
-        ensures after { IfOk result (λ r. self.new ≡ begin_after self.old pass moment r) }
+        requires { self.old.seen.refreshed ≤ 2 ^ 62 }
+        ensures reply { IfOk result (λ r. r ≡ begin_reply self.old.seen forced (next_due self.old.seen moment)) }
+        ensures after { IfOk result (λ r. self.new.seen ≡ begin_after self.old.seen pass moment r) }
+        ensures held { self.new.held ≡ self.old.held }
         ensures err { OnErr result (self.new ≡ self.old) }
     {
         if !forced {
@@ -392,10 +440,11 @@ impl Edge {
     /// Ends the refresh of this number, if this pass began it, and installs its metadata, where no trigger that was
     /// started since it began hits one of its documents, and none of a later refresh is installed. It takes no memory.
     pub fn refresh_end(&mut self, pass: u32, refresh: u64, tree: Option<Tree>) -> RefreshEnded
-        ensures reply { result ≡ refresh_end_reply self.old refresh (option_map tree_view tree)
-            (find (is_named refresh pass) self.old.refreshes) }
-        ensures after { self.new ≡ refresh_end_after self.old pass refresh (option_map tree_view tree)
-            (find (is_named refresh pass) self.old.refreshes) }
+        ensures reply { result ≡ refresh_end_reply self.old.seen refresh (option_map tree_view tree)
+            (find (is_named refresh pass) self.old.seen.refreshes) }
+        ensures after { self.new.seen ≡ refresh_end_after self.old.seen pass refresh (option_map tree_view tree)
+            (find (is_named refresh pass) self.old.seen.refreshes) }
+        ensures held { self.new.held ≡ self.old.held }
     {
         let Some(ended) = self.end_open(pass, refresh, resources_of(&tree)) else {
             return RefreshEnded::NotOpen;
@@ -411,20 +460,22 @@ impl Edge {
 
     // ends the open refresh of this number, if this pass began it, which has brought these documents
     fn end_open(&mut self, pass: u32, refresh: u64, resources: &[Key]) -> Option<Ended>
-        ensures found { result ≡ end_reply resources.now (find (is_named refresh pass) self.old.refreshes) }
-        ensures after { MatchOption result (self.new ≡ self.old) (λ _. self.new ≡ without_refresh self.old refresh pass) }
-        ensures room { OnSome result (self.new.installed + length self.new.refreshes < self.new.refreshed) }
-        ensures small { self.new.refreshed < 2 ^ 64 }
+        ensures found { result ≡ end_reply resources.now (find (is_named refresh pass) self.old.seen.refreshes) }
+        ensures after { MatchOption result (self.new ≡ self.old) (λ _. self.new.seen ≡ without_refresh self.old.seen refresh pass) }
+        ensures held { self.new.held ≡ self.old.held }
+        ensures room { OnSome result (self.new.seen.installed + length self.new.seen.refreshes < self.new.seen.refreshed) }
+        ensures small { self.new.seen.refreshed < 2 ^ 64 }
     {
         self.refreshes.end(pass, refresh, resources)
     }
 
     // installs the metadata of a refresh that began at this moment, where none of a later refresh is installed
     fn install(&mut self, refresh: u64, tree: Tree, moment: Moment) -> RefreshEnded
-        requires room { self.old.installed + length self.old.refreshes < self.old.refreshed }
-        requires small { self.old.refreshed < 2 ^ 64 }
-        ensures reply { result ≡ install_reply self.old (newer self.old refresh) }
-        ensures after { self.new ≡ install_after self.old refresh (tree_view tree) moment result }
+        requires room { self.old.seen.installed + length self.old.seen.refreshes < self.old.seen.refreshed }
+        requires small { self.old.seen.refreshed < 2 ^ 64 }
+        ensures reply { result ≡ install_reply self.old.seen (newer self.old.seen refresh) }
+        ensures after { self.new.seen ≡ install_after self.old.seen refresh (tree_view tree) moment result }
+        ensures held { self.new.held ≡ self.old.held }
     {
         if let Some(refresh) = self.newer(refresh) {
             return RefreshEnded::Older { refresh };
@@ -438,7 +489,7 @@ impl Edge {
 
     // the installed refresh, where its number is greater
     fn newer(&self, refresh: u64) -> Option<u64>
-        ensures { result ≡ newer self.now refresh }
+        ensures { result ≡ newer self.now.seen refresh }
     {
         match &self.installed {
             Some(installed) if refresh < installed.refresh() => Some(installed.refresh()),
@@ -458,8 +509,9 @@ impl Edge {
         trigger: u64,
         selection: &Selection,
     ) -> Result<(), AllocError>
-        requires { self.old.started ≤ 2 ^ 62 }
-        ensures after { OnOk result (self.new ≡ start_after self.old trigger selection.now) }
+        requires { self.old.seen.started ≤ 2 ^ 62 }
+        ensures after { OnOk result (self.new.seen ≡ start_after self.old.seen trigger selection.now) }
+        ensures held { self.new.held ≡ self.old.held }
         ensures err { OnErr result (self.new ≡ self.old) }
     {
         let copy = self.refreshes.copy_start(alloc, trigger, selection)?;
@@ -471,10 +523,9 @@ impl Edge {
         Ok(())
     }
 
-    /// What starts have taken back leaves memory at once, and not when a fetch is next kept. It takes no memory. Nothing of
-    /// what is seen changes.
+    /// What starts have taken back leaves memory at once, and not when a fetch is next kept. It takes no memory.
     pub fn sweep(&mut self)
-        ensures { self.new ≡ self.old }
+        ensures { self.new ≡ record self.old { held = self.old.seen.kept } }
     {
         self.shelf.sweep();
     }
@@ -485,9 +536,9 @@ impl Edge {
     /// # Errors
     /// Want of memory.
     pub fn skips(&self, alloc: Global, url: &Target) -> Result<bool, AllocError>
-        ensures { IfOk result (λ r. r ≡ skips self.now url.now) }
+        ensures { IfOk result (λ r. r ≡ skips self.now.seen url.now) }
     {
-        match effective_at(alloc, self.index(), self.invalid(), url)? {
+        match effective_at(alloc, self.installed(), url)? {
             Some(effective) => Ok(unskipped_plan(alloc, &effective)?.is_none()),
             None => Ok(true),
         }
@@ -504,11 +555,13 @@ impl Edge {
         pass: u32,
         url: &Target,
     ) -> Result<Option<Planned>, AllocError>
-        requires { self.old.fetched ≤ 2 ^ 62 }
-        ensures reply { IfOk result (λ r. r ≡ plan_reply self.old url.now) }
-        ensures after { OnOk result (self.new ≡ plan_after self.old pass url.now) }
+        requires { self.old.seen.fetched ≤ 2 ^ 62 }
+        ensures reply { IfOk result (λ r. r ≡ plan_reply self.old.seen url.now) }
+        ensures after { OnOk result (self.new.seen ≡ plan_after self.old.seen pass url.now) }
+        ensures held { self.new.held ≡ self.old.held }
         ensures err { OnErr result (self.new ≡ self.old) }
     {
+        self.make_table(alloc)?;
         let Some((what, plan)) = self.sourced(alloc, url)? else {
             return Ok(None);
         };
@@ -522,9 +575,9 @@ impl Edge {
         alloc: Global,
         url: &Target,
     ) -> Result<Option<(Fetching, EndpointList)>, AllocError>
-        ensures { IfOk result (λ found. found ≡ sourced self.now url.now) }
+        ensures { IfOk result (λ found. found ≡ sourced self.now.seen url.now) }
     {
-        let Some(effective) = effective_at(alloc, self.index(), self.invalid(), url)? else {
+        let Some(effective) = effective_at(alloc, self.installed(), url)? else {
             return Ok(None);
         };
         match unskipped_plan(alloc, &effective)? {

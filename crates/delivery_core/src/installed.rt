@@ -1,29 +1,35 @@
 //! The installed metadata.
 
-ghost use Rattle.std.specs.Prelude.{◌≡◌, None};
+ghost use Rattle.std.specs.Prelude.{◌≡◌, IfOk, None};
 ghost use Rattle.std.specs.List.{list_any};
-ghost use Rattle.metadata_objects.specs.LevelData.{index_view};
+ghost use Rattle.history.specs.Metadata.{objects_in};
 ghost use Rattle.metadata_objects.specs.Tree.{tree_view};
 ghost use Rattle.trigger_command.specs.Selection.{hits_metadata};
 
-use cdni_base::{Key, Moment};
-use metadata_objects::{HostIndex, Tree};
+use cdni_base::{Key, Moment, Target};
+use inheritance::{Effective, HostTable, effective, effective_by};
+use metadata_objects::Tree;
+use std::alloc::{AllocError, Global};
 use std::marker::Model;
 use trigger_command::Selection;
 
+/// So many hosts are searched one by one, which takes fewer steps than the table does.
+const FEW_HOSTS: usize = 8;
+
 /// Installed metadata: its refresh, the moment at which that began, and the first trigger that has made it invalid, where
-/// one has.
+/// one has; and the table of its hosts, once it was made.
 #[derive(Drop)]
 pub(crate) struct Installed {
     tree: Tree,
     refresh: u64,
     moment: Moment,
     invalid: Option<u64>,
+    hosts: Option<HostTable>,
 }
 
 impl Model for Installed {
     ghost use Rattle.metadata_objects.specs.Tree.{tree_view};
-    ghost use Rattle.delivery_core.specs.Installed.{Seen};
+    ghost use Rattle.delivery_core.specs.Installed.{HasTable, Seen};
 
     ghost Value = { Seen };
 
@@ -44,6 +50,8 @@ impl Model for Installed {
       moment = i.moment;
       invalid = i.invalid;
     } };
+
+    ghost invariant = { λ i. HasTable i.hosts (tree_view i.tree).index };
 }
 
 impl Installed {
@@ -58,14 +66,38 @@ impl Installed {
             refresh,
             moment,
             invalid: None,
+            hosts: None,
         }
     }
 
-    /// The HostIndex.
-    pub fn index(&self) -> &HostIndex
-        ensures { index_view result.now ≡ self.now.tree.index }
+    /// Makes the table of its hosts, unless it was made, or there are few of them. Nothing of what is seen changes.
+    ///
+    /// # Errors
+    /// Want of memory.
+    pub fn make_table(&mut self, alloc: Global) -> Result<(), AllocError>
+        ensures { self.new ≡ self.old }
     {
-        &self.tree.index
+        if self.hosts.is_none() && self.tree.index.hosts.len() > FEW_HOSTS {
+            self.hosts = Some(HostTable::of(alloc, &self.tree.index)?);
+        }
+        Ok(())
+    }
+
+    /// What is effective of a target, by the table of its hosts where that was made; `None` where no HostMatch matches.
+    ///
+    /// # Errors
+    /// Want of memory.
+    pub fn effective<'t>(
+        &'t self,
+        alloc: Global,
+        target: &Target,
+    ) -> Result<Option<Effective<'t>>, AllocError>
+        ensures { IfOk result (λ found. found ≡ objects_in self.now.tree.index target.now) }
+    {
+        match &self.hosts {
+            Some(hosts) => effective_by(alloc, &self.tree.index, hosts, target),
+            None => effective(alloc, &self.tree.index, target),
+        }
     }
 
     /// The refresh that brought it.

@@ -1,6 +1,6 @@
 //! The deliveries that are open, and the rows of those that were finished.
 
-ghost use Rattle.std.specs.Prelude.{◌≡◌, ◌+◌, ◌^◌, ◌<◌, ◌≤◌, [], OnOk, OnErr, max, length};
+ghost use Rattle.std.specs.Prelude.{◌≡◌, ◌+◌, ◌-◌, ◌^◌, ◌<◌, ◌≤◌, [], OnOk, OnErr, is_some, max, length};
 ghost use Rattle.std.specs.List.{find};
 ghost use Rattle.shelf.specs.Open.{is_named};
 ghost use Rattle.delivery_core.specs.Records.{begun, finish_reply, finish_after, finished_row};
@@ -92,6 +92,24 @@ impl Records {
         ensures { self.new ≡ record self.old { unfiled = [] } }
     {
         self.unfiled.clear();
+    }
+
+    /// Whether the delivery of this number is open, and this pass began it.
+    pub fn is_open(&self, pass: u32, delivery: u64) -> bool
+        ensures { result ≡ is_some (find (is_named delivery pass) self.now.deliveries) }
+    {
+        let named = Named {
+            number: delivery,
+            pass,
+        };
+        self.deliveries.find(named).is_some()
+    }
+
+    /// How many rows log files have.
+    pub fn filed(&self) -> u64
+        ensures { result ≡ self.now.logged - length self.now.unfiled }
+    {
+        self.logged.saturating_sub(self.unfiled.len() as u64)
     }
 
     /// Reserves places, so that a delivery can begin without memory.

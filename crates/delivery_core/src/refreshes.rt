@@ -1,6 +1,6 @@
 //! The refreshes that are open, and the starts that they have to know of.
 
-ghost use Rattle.std.specs.Prelude.{◌≡◌, ◌+◌, ◌^◌, ◌<◌, ◌≤◌, [], drop, length, map, option_to_list, IfOk, IfNone, OnOk, OnErr, OnSome};
+ghost use Rattle.std.specs.Prelude.{◌≡◌, ◌+◌, ◌^◌, ◌<◌, ◌≤◌, [], drop, is_some, length, map, option_to_list, IfOk, IfNone, OnOk, OnErr, OnSome};
 ghost use Rattle.std.specs.List.{find};
 ghost use Rattle.shelf.specs.Open.{is_named, unnamed};
 ghost use Rattle.delivery_core.specs.Refreshes.{AreBetween, begun, end_reply, first_noted, least_place, metadata_of, noted, noted_of, with_since, selects_metadata};
@@ -99,6 +99,17 @@ impl Refreshes {
             what: Placed { moment, place },
         });
         Ok(self.refreshed)
+    }
+
+    /// Whether the refresh of this number is open, and this pass began it.
+    pub fn is_open(&self, pass: u32, refresh: u64) -> bool
+        ensures { result ≡ is_some (find (is_named refresh pass) self.now.refreshes) }
+    {
+        let named = Named {
+            number: refresh,
+            pass,
+        };
+        self.row.find(named).is_some()
     }
 
     /// A copy of what open refreshes have to know of a start, where they have to, and a place for it.

@@ -109,6 +109,13 @@ impl ObjectTable {
         take_key(&mut self.row, &mut self.sum, key);
     }
 
+    /// The lengths of all objects together, in bytes.
+    pub fn held(&self) -> u64
+        ensures { result ≡ total self.now.objects }
+    {
+        self.sum
+    }
+
     /// How many objects are kept.
     pub fn len(&self) -> usize
         ensures { result ≡ length self.now.objects }

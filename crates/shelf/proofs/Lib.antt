@@ -1,3 +1,4 @@
+pub mod HeldLemmas
 pub mod ListLemmas
 pub mod OpenLemmas
 pub mod ShelfLemmas

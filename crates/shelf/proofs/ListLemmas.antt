@@ -1,7 +1,7 @@
 -- Lists whose items are seen as others.
 use Rattle.std.proofs.Common.{◌≡◌, ℕ, ◌+◌, ◌≤◌, arith, length, length-append, Bool, true, false, cond, not, List, [], ◌∷◌, map, None, Some, refl, sym, ap, ◌∙◌}
 use Rattle.std.specs.List.{filter, find, sum_by}
-use Rattle.std.specs.Option.{option_map, option_to_list}
+use Rattle.std.specs.Option.{is_some, option_map, option_to_list}
 use Rattle.std.specs.declared.option.Option.{Option}
 use Rattle.std.proofs.lemmas.List.Sums.{sum-map}
 use Rattle.std.specs.List.{sum}
@@ -22,6 +22,14 @@ module _ {A B : Type 0} (f : A → B) where
     | true ↦ ap (λ ys. f x ∷ ys) (filter-map p xs)
     | false ↦ filter-map p xs
   ]
+
+  pub some_map : (o : Option A) → is_some (option_map f o) ≡ is_some o
+  some_map None = refl
+  some_map (Some x) = refl
+
+  -- whether one of them is found, told from what is found before they are seen as others
+  pub found_map : (p : B → Bool) (xs : List A) (o : Option A) → o ≡ find (λ x. p (f x)) xs → is_some o ≡ is_some (find p (map f xs))
+  found_map p xs o is = ap is_some is ∙ sym (some_map (find (λ x. p (f x)) xs)) ∙ ap is_some (sym (find-map p xs))
 
   pub option_to_list-map : (o : Option A) → option_to_list (option_map f o) ≡ map f (option_to_list o)
   option_to_list-map None = refl

@@ -1,6 +1,6 @@
 -- The table's objects as kept objects.
-use Rattle.std.proofs.Common.{◌≡◌, ℕ, Bool, true, false, cond, not, nat_le, nat_lt, List, [], ◌∷◌, ◌++◌, length, map, None, Some, refl, sym, ap, ◌∙◌, ◌&&◌, ◌||◌, ◌==◌, arith}
-use Rattle.std.specs.List.{filter, find, list_any}
+use Rattle.std.proofs.Common.{◌≡◌, ℕ, Bool, true, false, cond, not, nat_le, List, [], ◌∷◌, ◌++◌, length, map, None, Some, refl, sym, ap, ◌∙◌, ◌&&◌, ◌==◌}
+use Rattle.std.specs.List.{filter, find}
 use Rattle.std.specs.Option.{is_some, option_and_then, option_map, option_to_list}
 use Rattle.std.specs.declared.option.Option.{Option}
 use Rattle.std.proofs.lemmas.List.{map-append}
@@ -21,8 +21,8 @@ use Rattle.shelf.specs.declared.open.Open.{Open}
 use Rattle.shelf.specs.declared.kept_shelf.Flight.{Flight}
 
 -- a shelf with these
-abbrev pub shelf : ℕ → List Kept → List (Open Flight) → ℕ → ℕ → ShelfView
-shelf limit kept fetches fetched starts = record { limit = limit; kept = kept; fetches = fetches; fetched = fetched; starts = starts }
+abbrev pub shelf : ℕ → List Kept → List Kept → List (Open Flight) → ℕ → ℕ → ShelfView
+shelf limit kept held fetches fetched starts = record { limit = limit; kept = kept; held = held; fetches = fetches; fetched = fetched; starts = starts }
 
 pub found_kept : (key : KeyParts) (os : List Object) → option_map kept_object (objects.kept_of key os) ≡ kept_of key (map kept_object os)
 found_kept key os = sym (find-map kept_object (is_of key) os)
@@ -33,7 +33,7 @@ used_kept key os =
     ∙ ap (λ xs. xs ++ map kept_object (option_to_list (find (objects.is_of key) os))) (sym (filter-map kept_object (λ k. not (is_of key k)) os))
     ∙ ap (λ xs. filter (λ k. not (is_of key k)) (map kept_object os) ++ xs) (sym (option_to_list-map kept_object (find (objects.is_of key) os)) ∙ ap option_to_list (found_kept key os))
 
-total_kept : (os : List Object) → objects.total os ≡ total (map kept_object os)
+pub total_kept : (os : List Object) → objects.total os ≡ total (map kept_object os)
 total_kept os = sym (sum_by-map kept_object size_of os)
 
 evicted_kept : (most : ℕ) (os : List Object) → map kept_object (objects.evicted most os) ≡ evicted most (map kept_object os)

@@ -1,5 +1,5 @@
 -- What starts leave of the objects of a table and of the open fetches.
-use Rattle.std.proofs.Common.{◌≡◌, ℕ, zero, suc, append_assoc, length-take, length-append, true≢false, ◌+◌, ◌<◌, ◌≤◌, max, min, Bool, true, false, cond, not, nat_le, nat_lt, List, [], ◌∷◌, ◌++◌, length, map, take, drop, remove, slice_get, get_or, None, Some, refl, sym, ap, ◌∙◌, subst, ◌&&◌, ◌||◌, arith, inl, inr}
+use Rattle.std.proofs.Common.{◌≡◌, ℕ, zero, suc, append_assoc, length-take, true≢false, ◌+◌, ◌<◌, ◌≤◌, max, min, Bool, true, false, cond, not, nat_le, nat_lt, List, [], ◌∷◌, ◌++◌, length, map, take, drop, remove, slice_get, get_or, None, Some, refl, sym, ap, ◌∙◌, ◌||◌, arith, inl, inr}
 use Rattle.std.specs.List.{filter, find}
 use Rattle.std.specs.Option.{is_some, option_map, option_to_list}
 use Rattle.std.specs.declared.option.Option.{Option}
@@ -20,7 +20,7 @@ use Rattle.history.specs.Kept.{is_of, kept_of, used}
 use Rattle.history.specs.World.{Kept}
 use Rattle.shelf.proofs.ListLemmas.{find-map, filter-map, filter_same}
 use Rattle.shelf.proofs.ShelfLemmas.{used_kept}
-use Rattle.shelf.specs.KeptShelf.{AreBegun, AreUpToEpoch, content_of, flight_of, is_gone, is_hit, kept_in, kept_object, least_begun, least_needed, struck, unhit}
+use Rattle.shelf.specs.KeptShelf.{AreBegun, AreUpToEpoch, content_of, flight_of, is_gone, kept_in, kept_object, least_begun, least_needed, struck, unhit}
 use Rattle.shelf.specs.declared.open.Open.{Open}
 use Rattle.shelf.specs.declared.kept_shelf.Launched.{Launched}
 

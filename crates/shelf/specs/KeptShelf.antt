@@ -1,5 +1,5 @@
 -- What is kept of fetches, and the fetches that are open.
-use Rattle.std.specs.Prelude.{◌≡◌, ℕ, ◌+◌, ◌≤◌, max, min, nat_le, Bool, true, false, not, ◌||◌, List, ◌∷◌, [], ◌++◌, filter, length, map, None, Some, is_some}
+use Rattle.std.specs.Prelude.{◌≡◌, ℕ, ◌+◌, ◌≤◌, max, min, nat_le, Bool, true, false, not, ◌||◌, ◌⊎◌, All, Contains, List, ◌∷◌, [], ◌++◌, filter, length, map, None, Some, is_some}
 use Rattle.std.specs.Option.{option_map}
 use Rattle.std.specs.declared.option.Option.{Option}
 use Rattle.epochs.specs.EpochsList.{Known, is_stale, past}
@@ -17,11 +17,13 @@ use Rattle.shelf.specs.declared.open.Open.{Open}
 use Rattle.shelf.specs.declared.kept_shelf.Flight.{Flight}
 use Rattle.shelf.specs.declared.kept_shelf.Launched.{Launched}
 
--- the most bytes that are kept, the kept objects, the least recently used first, the open fetches, in order, how many
--- were opened, and how many triggers started
+-- the most bytes that are kept, the kept objects, the least recently used first, what is in memory: the kept objects and
+-- those that starts have hit and that have not left yet; the open fetches, in order, how many were opened, and how many
+-- triggers started
 pub record ShelfView : Type 0 where
   pub limit : ℕ
   pub kept : List Kept
+  pub held : List Kept
   pub fetches : List (Open Flight)
   pub fetched : ℕ
   pub starts : ℕ
@@ -35,6 +37,14 @@ kept_object object = record {
   kind = object.kind;
   body = object.body;
 }
+
+-- nothing of these is new
+abbrev pub IsPartOf : List Kept → List Kept → Type 0
+IsPartOf new old = All (Contains old) new
+
+-- nothing of these is new but what is kept
+abbrev pub IsPartOfOrKept : List Kept → List Kept → List Kept → Type 0
+IsPartOfOrKept new old kept = All (λ one. Contains old one ⊎ Contains kept one) new
 
 abbrev pub opened : ShelfView → ℕ → Fetching → ShelfView
 opened s pass fetching = record s {

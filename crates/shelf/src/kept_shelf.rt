@@ -4,9 +4,9 @@ ghost use Rattle.std.specs.Prelude.{◌≡◌, ◌+◌, ◌^◌, ◌<◌, ◌≤
 ghost use Rattle.std.specs.List.{find};
 ghost use Rattle.epochs.specs.EpochsList.{past};
 ghost use Rattle.object_cache.specs.ObjectTable as objects;
-ghost use Rattle.history.specs.Kept.{kept_of, used, gained, with_gained};
+ghost use Rattle.history.specs.Kept.{kept_of, used, gained, total, with_gained};
 ghost use Rattle.shelf.specs.Open.{is_named, AreRising};
-ghost use Rattle.shelf.specs.KeptShelf.{kept_object, opened, end_reply, end_after, start_after, brought, content_of, is_gained, AreBegun, AreUpToEpoch, flight_of, is_gone, is_hit, kept_in, least_begun, least_needed, was_tried};
+ghost use Rattle.shelf.specs.KeptShelf.{kept_object, opened, end_reply, end_after, start_after, brought, content_of, is_gained, AreBegun, AreUpToEpoch, IsPartOf, IsPartOfOrKept, flight_of, is_gone, is_hit, kept_in, least_begun, least_needed, was_tried};
 
 use crate::open::{Named, Open};
 use cdni_base::Key;
@@ -49,13 +49,14 @@ pub struct Shelf {
 
 impl Model for Shelf {
     ghost use Rattle.std.specs.Prelude.{map};
-    ghost use Rattle.shelf.specs.KeptShelf.{IsShelf, ShelfView, flight_of, kept_in};
+    ghost use Rattle.shelf.specs.KeptShelf.{IsShelf, ShelfView, flight_of, kept_in, kept_object};
 
     ghost Value = { ShelfView };
 
     ghost view = { λ s. record {
       limit = s.table.limit;
       kept = kept_in s.epochs.known.starts s.noted s.table.objects;
+      held = map kept_object s.table.objects;
       fetches = map (flight_of s.epochs.known.starts) s.flights.items;
       fetched = s.fetched;
       starts = s.epochs.known.newest;
@@ -70,7 +71,7 @@ impl Shelf {
     /// # Errors
     /// Want of memory.
     pub fn new(alloc: Global, limit: u64) -> Result<Shelf, AllocError>
-        ensures { IfOk result (λ s. s ≡ record { limit = limit; kept = []; fetches = []; fetched = 0; starts = 0 }) }
+        ensures { IfOk result (λ s. s ≡ record { limit = limit; kept = []; held = []; fetches = []; fetched = 0; starts = 0 }) }
     {
         Ok(Shelf {
             table: ObjectTable::new(alloc, limit)?,
@@ -103,6 +104,43 @@ impl Shelf {
         Ok(self.fetched)
     }
 
+    /// Opens a fetch for this pass under whose key nothing is kept, as `open` does. What starts have hit under that key
+    /// leaves, so that they are not tried on it again.
+    ///
+    /// # Errors
+    /// Want of memory. Nothing is opened then, and nothing leaves.
+    pub fn open_missed(
+        &mut self,
+        alloc: Global,
+        pass: u32,
+        fetching: Fetching,
+    ) -> Result<u64, AllocError>
+        requires few { self.old.fetched ≤ 2 ^ 62 }
+        requires none { kept_of fetching.key self.old.kept ≡ None }
+        ensures reply { IfOk result (λ fetch. fetch ≡ self.old.fetched + 1) }
+        ensures after { OnOk result (self.new ≡ record (opened self.old pass fetching) { held = self.new.held }) }
+        ensures held { IsPartOf self.new.held self.old.held }
+        ensures err { OnErr result (self.new ≡ self.old) }
+    {
+        self.flights.reserve(alloc, 1)?;
+        self.table.reserve_fill(alloc)?;
+        let_go(
+            &mut self.table,
+            &mut self.epochs,
+            self.noted,
+            &self.flights,
+            &fetching.key,
+        );
+        self.fetched += 1;
+        let begun = self.epochs.newest();
+        self.flights.push(Open {
+            number: self.fetched,
+            pass,
+            what: Launched { fetching, begun },
+        });
+        Ok(self.fetched)
+    }
+
     /// What is kept under the key.
     pub fn find(&self, key: &Key) -> Option<&Object>
         ensures { option_map (λ o. kept_object o.now) result ≡ kept_of key.now self.now.kept }
@@ -119,9 +157,28 @@ impl Shelf {
         }
     }
 
+    /// The lengths of all that is in memory together, in bytes.
+    pub fn held(&self) -> u64
+        ensures { result ≡ total self.now.held }
+    {
+        self.table.held()
+    }
+
+    /// Whether the fetch of this number is open, and this pass opened it.
+    pub fn is_open(&self, pass: u32, fetch: u64) -> bool
+        ensures { result ≡ is_some (find (is_named fetch pass) self.now.fetches) }
+    {
+        let named = Named {
+            number: fetch,
+            pass,
+        };
+        self.flights.find(named).is_some()
+    }
+
     /// What is kept under the key was used: it goes to the end.
     pub fn touch(&mut self, key: &Key)
-        ensures { self.new ≡ record self.old { kept = used key.now self.old.kept } }
+        ensures after { self.new ≡ record self.old { kept = used key.now self.old.kept; held = self.new.held } }
+        ensures held { IsPartOf self.new.held self.old.held }
     {
         self.table.touch(key);
     }
@@ -133,7 +190,11 @@ impl Shelf {
     /// Want of memory. Nothing has changed then.
     pub fn renew(&mut self, alloc: Global, key: &Key) -> Result<(), AllocError>
         requires { is_some (kept_of key.now self.old.kept) ≡ true }
-        ensures after { OnOk result (self.new ≡ record self.old { kept = used key.now self.old.kept }) }
+        ensures after { OnOk result (self.new ≡ record self.old {
+          kept = used key.now self.old.kept;
+          held = self.new.held;
+        }) }
+        ensures held { IsPartOf self.new.held self.old.held }
         ensures err { OnErr result (self.new ≡ self.old) }
     {
         let newest = self.epochs.newest();
@@ -143,16 +204,6 @@ impl Shelf {
         }
         self.table.renew(alloc, key, newest)?;
         Ok(())
-    }
-
-    /// Nothing is kept under the key: what starts have hit of it leaves at once, so that no start is tried on it again. It
-    /// takes no memory. Nothing of what is seen changes.
-    pub fn forget(&mut self, key: &Key)
-        requires { kept_of key.now self.old.kept ≡ None }
-        ensures { self.new ≡ self.old }
-    {
-        self.table.take(key);
-        settle(&mut self.epochs, &self.table, self.noted, &self.flights);
     }
 
     /// A trigger starts: what its selection hits is no longer kept, and of the open fetches that it hits nothing will be.
@@ -175,7 +226,7 @@ impl Shelf {
     /// What starts have hit leaves at once, and not when a fetch is next kept. It takes no memory. Nothing of what is seen
     /// changes.
     pub fn sweep(&mut self)
-        ensures { self.new ≡ self.old }
+        ensures { self.new ≡ record self.old { held = self.old.kept } }
     {
         sweep(&mut self.table, &self.epochs, &mut self.noted);
         settle(&mut self.epochs, &self.table, self.noted, &self.flights);
@@ -186,7 +237,9 @@ impl Shelf {
     /// fetch is open.
     pub fn end(&mut self, pass: u32, fetch: u64, outcome: Outcome) -> Option<bool>
         ensures reply { result ≡ end_reply self.old outcome (find (is_named fetch pass) self.old.fetches) }
-        ensures after { self.new ≡ end_after self.old pass fetch outcome (find (is_named fetch pass) self.old.fetches) }
+        ensures after { self.new ≡ record (end_after self.old pass fetch outcome
+            (find (is_named fetch pass) self.old.fetches)) { held = self.new.held } }
+        ensures held { IsPartOfOrKept self.new.held self.old.held self.new.kept }
         ensures closed { IfNone result (self.new ≡ self.old) }
     {
         let named = Named {
@@ -210,6 +263,37 @@ impl Shelf {
                 None
             }
         }
+    }
+}
+
+// takes out what starts have hit under the key, and forgets the starts that nothing has to be tried with then
+fn let_go(
+    table: &mut ObjectTable,
+    epochs: &mut Epochs,
+    noted: u64,
+    flights: &Row<Open<Launched>>,
+    key: &Key,
+)
+    requires noted { noted ≤ epochs.old.known.newest }
+    requires begun { AreBegun 0 epochs.old.known.newest flights.now.items }
+    requires settled { past (least_needed epochs.old.known.newest noted table.old.objects flights.now.items)
+        epochs.old.known.starts ≡ epochs.old.known.starts }
+    requires none { kept_of key.now (kept_in epochs.old.known.starts noted table.old.objects) ≡ None }
+    ensures kept { kept_in epochs.new.known.starts noted table.new.objects
+        ≡ kept_in epochs.old.known.starts noted table.old.objects }
+    ensures fetches { map (flight_of epochs.new.known.starts) flights.now.items
+        ≡ map (flight_of epochs.old.known.starts) flights.now.items }
+    ensures held { IsPartOf (map kept_object table.new.objects) (map kept_object table.old.objects) }
+    ensures up_to { (top : ℕ) → AreUpToEpoch top table.old.objects → AreUpToEpoch top table.new.objects }
+    ensures settled { past (least_needed epochs.new.known.newest noted table.new.objects flights.now.items)
+        epochs.new.known.starts ≡ epochs.new.known.starts }
+    ensures newest { epochs.new.known.newest ≡ epochs.old.known.newest }
+    ensures limit { table.new.limit ≡ table.old.limit }
+    ensures spare { table.new.spare ≡ table.old.spare }
+{
+    if epochs.newest() > noted {
+        table.take(key);
+        settle(epochs, table, noted, flights);
     }
 }
 
@@ -262,6 +346,8 @@ fn keep(
         (flight_of epochs.now.known.starts flight) outcome }
     ensures kept { kept_in epochs.now.known.starts noted.new table.new.objects ≡ brought table.old.limit
         (kept_in epochs.now.known.starts noted.old table.old.objects) (flight_of epochs.now.known.starts flight) outcome }
+    ensures held { IsPartOfOrKept (map kept_object table.new.objects) (map kept_object table.old.objects)
+        (kept_in epochs.now.known.starts noted.new table.new.objects) }
     ensures limit { table.new.limit ≡ table.old.limit }
     ensures spare { table.new.spare + 1 ≡ table.old.spare }
     ensures noted { noted.new ≤ epochs.now.known.newest }
@@ -306,6 +392,8 @@ fn keep_content(
     ensures kept { kept_in epochs.now.known.starts noted.new table.new.objects ≡ brought table.old.limit
         (kept_in epochs.now.known.starts noted.old table.old.objects) (flight_of epochs.now.known.starts flight)
         (Outcome.Got got) }
+    ensures held { IsPartOfOrKept (map kept_object table.new.objects) (map kept_object table.old.objects)
+        (kept_in epochs.now.known.starts noted.new table.new.objects) }
     ensures limit { table.new.limit ≡ table.old.limit }
     ensures spare { table.new.spare + 1 ≡ table.old.spare }
     ensures noted { noted.new ≤ epochs.now.known.newest }

@@ -116,8 +116,20 @@ fn open_both(
 {
     let own = fetching_of(alloc, random)?;
     let other = fetching_of(alloc, random)?;
-    let fetch = shelf.open(alloc, 1, own)?;
+    let fetch = open_by_key(alloc, shelf, own)?;
     Ok(plain.open(1, other)? == fetch)
+}
+
+// opens a fetch as a request does where nothing is kept under its key, and else as a trigger does
+fn open_by_key(alloc: Global, shelf: &mut Shelf, fetching: Fetching) -> Result<u64, Fail>
+    requires { shelf.old.fetched ≤ 2 ^ 62 }
+    ensures few { shelf.new.fetched + shelf.new.starts ≤ shelf.old.fetched + shelf.old.starts + 1 }
+{
+    if shelf.find(&fetching.key).is_none() {
+        Ok(shelf.open_missed(alloc, 1, fetching)?)
+    } else {
+        Ok(shelf.open(alloc, 1, fetching)?)
+    }
 }
 
 // ends one of the last fetches in both, and whether it is kept in both or in none
@@ -151,17 +163,14 @@ fn start_both(
     Ok(true)
 }
 
-// what is kept under the key is used, and what is not leaves
-fn use_or_forget(alloc: Global, shelf: &mut Shelf, key: &Key) -> Result<(), Fail>
+// what is kept under the key is used
+fn use_if_kept(alloc: Global, shelf: &mut Shelf, key: &Key) -> Result<(), Fail>
     ensures few { shelf.new.fetched + shelf.new.starts ≤ shelf.old.fetched + shelf.old.starts + 1 }
 {
     if shelf.find(key).is_some() {
         shelf.renew(alloc, key)?;
-        Ok(())
-    } else {
-        shelf.forget(key);
-        Ok(())
     }
+    Ok(())
 }
 
 // uses what is kept under a key in both
@@ -175,7 +184,7 @@ fn use_both(
 {
     let key = key_of(alloc, random)?;
     plain.touch(&key)?;
-    use_or_forget(alloc, shelf, &key)?;
+    use_if_kept(alloc, shelf, &key)?;
     Ok(true)
 }
 

@@ -1,8 +1,9 @@
-use Rattle.std.proofs.Common.{map, sym, ap, ◌∙◌}
+use Rattle.std.proofs.Common.{sym, ◌∙◌}
 use Rattle.std.proofs.lemmas.Bool.{eq-eqb, ne_eqb}
 use Rattle.shelf.proofs.ShelfLemmas.{brought_full, brought_other, gained_full}
 use Rattle.shelf.proofs.StaleLemmas.{up_filled}
 use Rattle.shelf.proofs.kept_shelf.keep_content.Goals as goal
+use Rattle.shelf.proofs.HeldLemmas.{part_or_kept, part_or_same}
 use Rattle.shelf.specs.KeptShelf.{flight_of, kept_in}
 
 pub returns-then-status-ne200-clause-kept : goal.returns-then-status-ne200-clause-kept
@@ -28,3 +29,9 @@ returns-clause-kept c =
     c.sweep.ensures.fresh c.fill_reserved.new.self.objects (returns-clause-objects c)
     ∙ rw (c.fill_reserved.ensures.after, c.into_parts-kind.ensures.kind, c.into_parts-kind.ensures.body, c.sweep.ensures.limit, ← c.sweep.ensures.kept)
     (sym (brought_full c.args.table.now.limit c.sweep.new.table.objects flight c.args.got c.args.flight.what.begun full c.requires.unhit))
+
+pub returns-then-status-ne200-clause-held : goal.returns-then-status-ne200-clause-held
+returns-then-status-ne200-clause-held c = rw c.give_back.ensures (part_or_same _ _)
+
+pub returns-clause-held : goal.returns-clause-held
+returns-clause-held c = part_or_kept _ _ _ (c.sweep.ensures.fresh c.fill_reserved.new.self.objects (returns-clause-objects c))

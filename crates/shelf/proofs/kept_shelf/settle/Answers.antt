@@ -1,5 +1,5 @@
 use Rattle.std.proofs.Common.{◌≡◌, min, arith, ap, ◌∙◌}
-use Rattle.shelf.proofs.StaleLemmas.{least_top, needed_none, needed_some, settled_fetches, settled_kept}
+use Rattle.shelf.proofs.StaleLemmas.{least_top, needed_none, needed_some, settled_fetches}
 use Rattle.shelf.proofs.kept_shelf.settle.Goals as goal
 use Rattle.shelf.specs.KeptShelf.{least_begun, least_needed}
 

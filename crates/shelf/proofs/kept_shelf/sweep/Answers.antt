@@ -1,6 +1,4 @@
-use Rattle.std.proofs.Common.{◌≡◌, ℕ, List, false, sym, ap, ◌∙◌}
-use Rattle.std.specs.declared.option.Option.{Option}
-use Rattle.cdni_base.specs.Key.{KeyParts}
+use Rattle.std.proofs.Common.{sym, ap, ◌∙◌}
 use Rattle.epochs.specs.EpochsList.{is_stale}
 use Rattle.shelf.proofs.StaleLemmas.{all_kept}
 use Rattle.shelf.proofs.kept_shelf.sweep.Goals as goal

@@ -1,4 +1,4 @@
-use Rattle.std.proofs.Common.{◌<◌, ◌-◌, ℕ, not, length, length-append, length-take, take, drop, filter, arith, sym, ap, subst, ◌∙◌}
+use Rattle.std.proofs.Common.{◌<◌, ◌-◌, not, length, length-append, length-take, take, drop, filter, arith, sym, ap, subst, ◌∙◌}
 use Rattle.object_cache.specs.declared.object.Object.{Object}
 use Rattle.shelf.proofs.StaleLemmas.{all_tried, swept_at, there_at, up_filter}
 use Rattle.shelf.proofs.kept_shelf.take_out_gone.Goals as goal

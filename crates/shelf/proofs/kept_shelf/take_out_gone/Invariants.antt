@@ -1,4 +1,4 @@
-use Rattle.std.proofs.Common.{◌≡◌, ℕ, ◌≤◌, ◌++◌, not, take, drop, length}
+use Rattle.std.proofs.Common.{◌≡◌, ◌≤◌, ◌++◌, not, take, drop, length}
 use Rattle.std.specs.List.{filter}
 use Rattle.shelf.specs.KeptShelf.{is_gone}
 use Rattle.shelf.proofs.kept_shelf.take_out_gone.Given as goal

@@ -1,16 +1,15 @@
-use Rattle.std.proofs.Common.{◌≡◌, None, Some, map, find, not, arith, refl, sym, ap, ◌∙◌}
+use Rattle.std.proofs.Common.{Some, map, find, not, arith, refl, subst, sym, ap, ◌∙◌}
 use Rattle.std.specs.Option.{option_map}
-use Rattle.std.specs.declared.option.Option.{Option}
 use Rattle.shelf.proofs.ListLemmas.{filter-map, find-map, taken_length}
 use Rattle.shelf.proofs.OpenLemmas.{rising_filter, up_to_filter}
 use Rattle.shelf.proofs.ShelfLemmas.{shelf}
 use Rattle.shelf.proofs.StaleLemmas.{begun_filter, found_begun, past_twice}
 use Rattle.shelf.proofs.kept_shelf.Shelf.end.Goals as goal
-use Rattle.shelf.specs.KeptShelf.{ShelfView, end_after, end_reply, flight_of, kept_in, least_needed}
+use Rattle.shelf.specs.KeptShelf.{IsPartOfOrKept, ShelfView, end_after, flight_of, kept_in, kept_object, least_needed}
 use Rattle.shelf.specs.Open.{is_named}
 use Rattle.rows.specs.Row.{RowSeen}
-use Rattle.shelf.specs.declared.kept_shelf.Flight.{Flight}
 use Rattle.shelf.specs.declared.kept_shelf.Launched.{Launched}
+use Rattle.shelf.proofs.HeldLemmas.{part_or_same}
 use Rattle.shelf.specs.declared.open.Open.{Open}
 
 pub keep-kept-requires-clause-begun : goal.keep-kept-requires-clause-begun
@@ -58,9 +57,10 @@ returns-in-Some-clause-after c =
     c.settle.ensures.fetches ∙ ap (λ (v : RowSeen (Open Launched)). map (flight_of starts) v.items) c.take.ensures.after
     ∙ sym (filter-map (flight_of starts) (λ o. not (test o)) i.flights.items) in
     let newest = c.settle.ensures.newest in
-    (λ j. shelf (limit j) (kept j) (fetches j) i.fetched (newest j))
-    ∙ ap (end_after (shelf i.table.limit (kept_in starts i.noted i.table.objects) (map (flight_of starts) i.flights.items) i.fetched i.epochs.known.newest) c.args.pass c.args.fetch c.args.outcome) (sym found)
-    ∙ ap (λ (s : ShelfView). end_after s c.args.pass c.args.fetch c.args.outcome (find test s.fetches)) c.self.view_is
+    let held = map kept_object c.keep-kept.new.table.objects in
+    (λ j. shelf (limit j) (kept j) held (fetches j) i.fetched (newest j))
+    ∙ ap (λ one. record (end_after (shelf i.table.limit (kept_in starts i.noted i.table.objects) (map kept_object i.table.objects) (map (flight_of starts) i.flights.items) i.fetched i.epochs.known.newest) c.args.pass c.args.fetch c.args.outcome one) { held = held }) (sym found)
+    ∙ ap (λ (s : ShelfView). record (end_after s c.args.pass c.args.fetch c.args.outcome (find test s.fetches)) { held = held }) c.self.view_is
 
 pub returns-in-None-clause-reply : goal.returns-in-None-clause-reply
 returns-in-None-clause-reply c =
@@ -75,3 +75,10 @@ returns-in-None-clause-after c =
     let starts = i.epochs.known.starts in
     let found = find-map (flight_of starts) (is_named c.args.fetch c.args.pass) i.flights.items ∙ ap (option_map (flight_of starts)) (sym c.in-None.ensures.found) in
     rw (← c.self.view_is, found, c.in-None.ensures.one) refl
+
+pub returns-in-Some-clause-held : goal.returns-in-Some-clause-held
+returns-in-Some-clause-held c = subst (λ kept. IsPartOfOrKept (map kept_object c.keep-kept.new.table.objects) c.args.self.now.held kept) (sym c.settle.ensures.kept)
+    (subst (λ (s : ShelfView). IsPartOfOrKept (map kept_object c.keep-kept.new.table.objects) s.held (kept_in c.self.inside.epochs.known.starts c.keep-kept.new.noted c.keep-kept.new.table.objects)) c.self.view_is c.keep-kept.ensures.held)
+
+pub returns-in-None-clause-held : goal.returns-in-None-clause-held
+returns-in-None-clause-held c = rw (← c.self.view_is) (part_or_same _ _)

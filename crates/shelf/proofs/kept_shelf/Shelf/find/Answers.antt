@@ -1,7 +1,5 @@
 use Rattle.std.proofs.Common.{cond, None, Some, sym, ap, ◌∙◌}
 use Rattle.std.specs.Option.{option_map}
-use Rattle.std.specs.declared.option.Option.{Option}
-use Rattle.object_cache.specs.declared.object.Object.{Object}
 use Rattle.shelf.proofs.StaleLemmas.{found_in, live_one}
 use Rattle.shelf.proofs.kept_shelf.Shelf.find.Goals as goal
 use Rattle.shelf.specs.KeptShelf.{kept_object}

@@ -1,4 +1,4 @@
-use Rattle.std.proofs.Common.{◌≡◌, ◌+◌, ◌||◌, ◌≤◌, ℕ, List, arith, ap, ◌∙◌}
+use Rattle.std.proofs.Common.{◌≡◌, ◌+◌, ◌||◌, ◌≤◌, ℕ, List, map, arith, ap, ◌∙◌}
 use Rattle.std.specs.declared.option.Option.{Option}
 use Rattle.cdni_base.specs.Key.{KeyParts}
 use Rattle.epochs.specs.EpochsList.{Known, is_stale}
@@ -6,7 +6,7 @@ use Rattle.trigger_command.specs.Selection.{hits}
 use Rattle.shelf.proofs.ShelfLemmas.{shelf}
 use Rattle.shelf.proofs.StaleLemmas.{begun_higher, past_twice, started_fetches, started_kept, up_later}
 use Rattle.shelf.proofs.kept_shelf.Shelf.start.Goals as goal
-use Rattle.shelf.specs.KeptShelf.{AreBegun, ShelfView, content_of, least_needed, start_after}
+use Rattle.shelf.specs.KeptShelf.{ShelfView, content_of, kept_object, least_needed, start_after}
 
 pub settle-requires-clause-begun : goal.settle-requires-clause-begun
 settle-requires-clause-begun c =
@@ -45,4 +45,4 @@ returns-clause-after c =
     let kept = c.settle.ensures.kept ∙ started_kept known.starts c.start.new.self.known.starts known.newest selection (more c) i.noted i.table.objects v.swept v.up_to in
     let fetches = c.settle.ensures.fetches ∙ started_fetches known.starts c.start.new.self.known.starts known.newest selection (more c) 0 i.flights.items v.begun in
     let newest = c.settle.ensures.newest ∙ ap (λ (k : Known). k.newest) c.in_ok-start.ensures.known in
-    (λ j. shelf i.table.limit (kept j) (fetches j) i.fetched (newest j)) ∙ ap (λ (s : ShelfView). start_after s selection) c.self.view_is
+    (λ j. shelf i.table.limit (kept j) (map kept_object i.table.objects) (fetches j) i.fetched (newest j)) ∙ ap (λ (s : ShelfView). start_after s selection) c.self.view_is

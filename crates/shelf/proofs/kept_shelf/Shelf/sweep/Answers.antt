@@ -2,7 +2,7 @@ use Rattle.std.proofs.Common.{arith, ap, ◌∙◌}
 use Rattle.shelf.proofs.ShelfLemmas.{shelf}
 use Rattle.shelf.proofs.StaleLemmas.{past_twice}
 use Rattle.shelf.proofs.kept_shelf.Shelf.sweep.Goals as goal
-use Rattle.shelf.specs.KeptShelf.{least_needed}
+use Rattle.shelf.specs.KeptShelf.{ShelfView, least_needed}
 
 pub invariant_of-self : goal.invariant_of-self
 invariant_of-self c =
@@ -26,4 +26,4 @@ returns c =
     let kept = c.settle.ensures.kept ∙ c.sweep.ensures.fresh c.sweep.new.table.objects c.sweep.ensures.objects ∙ c.sweep.ensures.kept in
     let fetches = c.settle.ensures.fetches in
     let newest = c.settle.ensures.newest in
-    (λ j. shelf (limit j) (kept j) (fetches j) i.fetched (newest j)) ∙ c.self.view_is
+    (λ j. shelf (limit j) (kept j) (c.sweep.ensures.kept j) (fetches j) i.fetched (newest j)) ∙ ap (λ (s : ShelfView). record s { held = s.kept }) c.self.view_is

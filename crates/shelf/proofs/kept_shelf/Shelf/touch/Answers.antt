@@ -4,7 +4,9 @@ use Rattle.object_cache.specs.ObjectTable as objects
 use Rattle.shelf.proofs.ShelfLemmas.{shelf}
 use Rattle.shelf.proofs.StaleLemmas.{kept_moved, needed_moved, up_moved}
 use Rattle.shelf.proofs.kept_shelf.Shelf.touch.Goals as goal
-use Rattle.shelf.specs.KeptShelf.{flight_of}
+use Rattle.rows.specs.Row.{moved}
+use Rattle.shelf.proofs.HeldLemmas.{part_moved}
+use Rattle.shelf.specs.KeptShelf.{flight_of, kept_object}
 
 pub invariant_of-self : goal.invariant_of-self
 invariant_of-self c =
@@ -21,9 +23,12 @@ invariant_of-self c =
       settled = rw c.touch.ensures.after (ap (λ n. past n i.epochs.known.starts) (needed_moved newest i.noted test i.table.objects i.flights.items) ∙ v.settled);
     }
 
-pub returns : goal.returns
-returns c =
+pub returns-clause-after : goal.returns-clause-after
+returns-clause-after c =
     let i = c.self.inside in
     let starts = i.epochs.known.starts in
-    rw (← c.self.view_is, c.touch.ensures.after) (ap (λ kept. shelf i.table.limit kept (map (flight_of starts) i.flights.items) i.fetched i.epochs.known.newest)
+    rw (← c.self.view_is, c.touch.ensures.after) (ap (λ kept. shelf i.table.limit kept (map kept_object (moved (objects.is_of c.args.key.now) i.table.objects)) (map (flight_of starts) i.flights.items) i.fetched i.epochs.known.newest)
     (kept_moved starts i.noted c.args.key.now i.table.objects c.touch.ensures.apart))
+
+pub returns-clause-held : goal.returns-clause-held
+returns-clause-held c = rw (← c.self.view_is, c.touch.ensures.after) (part_moved (objects.is_of c.args.key.now) c.self.inside.table.objects)

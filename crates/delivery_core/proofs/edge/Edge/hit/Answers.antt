@@ -1,0 +1,11 @@
+use Rattle.shelf.proofs.HeldLemmas.{part_same}
+use Rattle.delivery_core.proofs.edge.Edge.hit.Goals as goal
+
+pub returns-in_err-reserve-clause-held : goal.returns-in_err-reserve-clause-held
+returns-in_err-reserve-clause-held c = rw (← c.self.view_is) (part_same _)
+
+pub returns-in_err-renew-clause-held : goal.returns-in_err-renew-clause-held
+returns-in_err-renew-clause-held c = rw (← c.self.view_is) c.renew.ensures.held
+
+pub returns-clause-held : goal.returns-clause-held
+returns-clause-held c = rw (← c.self.view_is) c.renew.ensures.held

@@ -2,7 +2,9 @@ mod EndLemmas
 mod HomeLemmas
 mod LawLemmas
 mod LogLemmas
+mod NeededLemmas
 mod NodeLemmas
+mod PurgedLemmas
 mod StateLemmas
 mod StepLemmas
 mod TriggerLemmas

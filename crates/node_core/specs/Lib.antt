@@ -1,5 +1,7 @@
 pub mod Call
 pub mod State
+pub mod Needed
+pub mod Purged
 pub mod Node
 pub mod Logs
 pub mod Law

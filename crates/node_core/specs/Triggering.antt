@@ -1,14 +1,16 @@
 -- What the calls of triggers make of the two sides of a node, and their replies.
 use Rattle.std.specs.Prelude.{ℕ, Bool, true, false, List, None, Some, Result, Ok, Err}
 use Rattle.std.specs.List.{slice_get}
-use Rattle.std.specs.Option.{option_and_then, option_map}
+use Rattle.std.specs.Option.{option_and_then, option_map, option_map_or}
 use Rattle.std.specs.declared.option.Option.{Option}
 use Rattle.control_core.specs.Control.{ControlView, with_triggers}
-use Rattle.delivery_core.specs.Edge.{EdgeView, start_after}
+use Rattle.delivery_core.specs.Edge.{EdgeView, Holding, start_after}
 use Rattle.delivery_core.specs.declared.results.RefreshEnded.{RefreshEnded}
 use Rattle.delivery_core.specs.declared.results.RefreshEnded.TheVariants as ended
 use Rattle.history.specs.After.{ended_fetch, ended_refresh}
-use Rattle.history.specs.Steps.{changed, skipped}
+use Rattle.history.specs.Event.{Event, Advance}
+use Rattle.history.specs.Steps.{changed, skipped, trigger_of}
+use Rattle.history.specs.World.{Trigger}
 use Rattle.history.specs.declared.reply.Reply.{Reply}
 use Rattle.history.specs.declared.reply.Reply.TheVariants as reply
 use Rattle.node_core.specs.State.{StateView}
@@ -17,6 +19,7 @@ use Rattle.trigger_command.specs.declared.spec.TriggerKind.{TriggerKind}
 use Rattle.trigger_command.specs.declared.spec.TriggerKind.TheVariants.{Preposition, Invalidate, Purge}
 use Rattle.trigger_status.specs.declared.job.Job.{Job}
 use Rattle.trigger_status.specs.declared.job.JobStatus.{JobStatus}
+use Rattle.trigger_status.specs.declared.job.JobStatus.TheVariants.{Complete}
 
 -- ---- steps
 
@@ -29,6 +32,30 @@ started_as v job Purge = start_after v job.id job.spec.selection
 abbrev pub started_by : EdgeView → Option Job → EdgeView
 started_by v None = v
 started_by v (Some job) = started_as v job job.spec.kind
+
+-- at the end of a purge nothing is in memory but what is kept (RFC 8007, section 5.2.2)
+abbrev pub swept_as : Holding → TriggerKind → Holding
+swept_as v Preposition = v
+swept_as v Invalidate = v
+swept_as v Purge = record v { held = v.seen.kept }
+
+abbrev pub swept_by : Holding → Option Job → Holding
+swept_by v None = v
+swept_by v (Some job) = swept_as v job.spec.kind
+
+abbrev pub is_purge_of : TriggerKind → Bool
+is_purge_of Preposition = false
+is_purge_of Invalidate = false
+is_purge_of Purge = true
+
+-- the trigger of this number is a purge
+abbrev pub is_purge : ℕ → List Trigger → Bool
+is_purge id triggers = option_map_or (λ trigger. is_purge_of trigger.job.spec.kind) (trigger_of id triggers) false
+
+-- the call is answered that a purge is complete
+abbrev pub completes_purge : List Trigger → Event → Reply → Bool
+completes_purge triggers (Advance id moment) (reply.Final Complete) = is_purge id triggers
+completes_purge triggers event answer = false
 
 -- what the content URL at this place names
 abbrev pub url_of : ℕ → Option Job → Option Target

@@ -7,7 +7,7 @@ mod law;
 mod node;
 mod state;
 
-pub use entered::Entered;
+pub use entered::{Entered, Need};
 pub use history::{Call, Reply};
 pub use home::{Home, OneHome};
 pub use law::every_answer_is_lawful;

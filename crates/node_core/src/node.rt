@@ -1,7 +1,8 @@
 //! The node: one call after the other.
 
-ghost use Rattle.std.specs.Prelude.{◌≡◌, ◌+◌, ◌^◌, ◌<◌, ◌≤◌, [], ◌∷◌, ◌++◌, true, false, IfOk, IsOk, OnErr, OnOk};
+ghost use Rattle.std.specs.Prelude.{◌≡◌, ◌+◌, ◌^◌, ◌<◌, ◌≤◌, [], ◌∷◌, ◌++◌, true, false, length, IfOk, IsOk, OnErr, OnOk};
 ghost use Rattle.history.specs.Event.{History, event_of};
+ghost use Rattle.history.specs.Kept.{total};
 ghost use Rattle.history.specs.World.{Made};
 ghost use Rattle.node_core.specs.Answers.{answers};
 ghost use Rattle.node_core.specs.Call.{is_end};
@@ -9,21 +10,22 @@ ghost use Rattle.delivery_core.specs.OpenCount.{begun_count};
 ghost use Rattle.node_core.specs.State.{ends_open, is_not_open};
 ghost use Rattle.node_core.specs.Home.{EndsOpen};
 ghost use Rattle.node_core.specs.Law.{IsLawful};
-ghost use Rattle.node_core.specs.Node.{Stands, Tells};
+ghost use Rattle.node_core.specs.Node.{Adds, Enters, Holds, Stands, Tells, is_first_unneeded, node_view};
 
-use crate::entered::{Entered, is_end, stripped};
+use crate::entered::{Entered, is_end, need_of, stripped};
 use crate::law::every_answer_is_lawful;
 use crate::state::State;
 use cdni_base::{Limits, Text};
-use history::laws::what_is_open_has_begun_and_not_ended;
+use history::laws::{later_numbers_are_greater, what_is_open_has_begun_and_not_ended};
 use history::{Call, Reply};
 use journal::Journal;
 use std::alloc::{AllocError, Global};
 use std::marker::Model;
 
 /// What the calls have left, and the journal of the calls. A node stands for the history of the calls that it took in,
-/// each with the number of the pass that made it. What is open has a place in the journal for its end, so that its end
-/// takes no memory.
+/// each with the number of the pass that made it, and has them stored from the first one on with which something began
+/// that is open, or a row was finished that no log file has. What is open has a place in the journal for its end, so that
+/// its end takes no memory.
 #[derive(Drop)]
 pub struct Node {
     limits: Limits,
@@ -34,10 +36,9 @@ pub struct Node {
 }
 
 impl Model for Node {
-    ghost use Rattle.std.specs.Prelude.{◌≤◌, map};
-    ghost use Rattle.node_core.specs.Call.{entry_of};
+    ghost use Rattle.std.specs.Prelude.{◌≤◌};
     ghost use Rattle.delivery_core.specs.OpenCount.{open_count};
-    ghost use Rattle.node_core.specs.Node.{NodeView};
+    ghost use Rattle.node_core.specs.Node.{NodeView, node_view};
 
     ghost Value = { NodeView };
 
@@ -52,13 +53,9 @@ impl Model for Node {
           (coded_list generic.the_row.coded) coded_ℕ))),
     ) };
 
-    ghost view = { λ n. record {
-      made = record { limits = n.limits; origin = n.state.origin };
-      state = n.state;
-      stored = map entry_of n.journal.stored;
-    } };
+    ghost view = { λ n. node_view (record { limits = n.limits; origin = n.state.seen.origin }) n.state n.journal };
 
-    ghost invariant = { λ n. (open_count n.state.edge ≤ n.places) × (n.places ≤ n.reserved)
+    ghost invariant = { λ n. (open_count n.state.seen.edge ≤ n.places) × (n.places ≤ n.reserved)
         × (n.reserved ≤ n.journal.spare) };
 }
 
@@ -82,7 +79,9 @@ impl Node {
 
     /// Takes in the call of a pass, and answers it as the history before it says. So it keeps the laws of deliveries: a
     /// hit has what one fetch brought, a miss begins its own fetch, what is read from the metadata is read from metadata
-    /// that nothing has taken back, and a delivery that is finished has its row.
+    /// that nothing has taken back, and a delivery that is finished has its row. The oldest calls are given up as far as
+    /// nothing that is open began with them and no unfiled row was finished with them; and from the answer that a purge is
+    /// complete on, nothing is in memory of what it took back.
     ///
     /// # Errors
     /// Want of memory, but for the end of a fetch, of a refresh or of a delivery that the pass has open, which takes none.
@@ -100,6 +99,41 @@ impl Node {
     {
         every_answer_is_lawful();
         what_is_open_has_begun_and_not_ended();
+        let answer = self.take_in(alloc, pass, call);
+        if answer.is_err() {
+            return answer;
+        }
+        give_up(&mut self.journal, &self.state);
+        answer
+    }
+
+    /// The lengths of all bodies that are in memory together, in bytes: of the kept objects, and of those that triggers have
+    /// taken back and that have not left yet. Stored calls have none.
+    pub fn held(&self) -> u64
+        ensures { result ≡ total self.now.held }
+    {
+        self.state.held()
+    }
+
+    /// How many calls are stored.
+    pub fn stored(&self) -> usize
+        ensures { result ≡ length self.now.stored }
+    {
+        self.journal.stored()
+    }
+
+    // takes in the call, and gives none up
+    fn take_in(&mut self, alloc: Global, pass: u32, call: Call) -> Result<Reply, AllocError>
+        ensures told { (made : Made) (h : History) → Stands self.old made h
+            → IfOk result (λ r. Enters made h (pass, event_of call) r self.new) }
+        ensures kind { IfOk result (λ r. answers (event_of call) r ≡ true) }
+        ensures made { self.new.made ≡ self.old.made }
+        ensures ended { is_end (event_of call) ≡ true → ends_open self.old.state.edge pass (event_of call) ≡ true
+            → IsOk result }
+        ensures err { OnErr result (self.new ≡ self.old) }
+    {
+        what_is_open_has_begun_and_not_ended();
+        later_numbers_are_greater();
         if is_end(&call) {
             self.end(alloc, pass, call)
         } else {
@@ -110,17 +144,13 @@ impl Node {
     // the end of a fetch, of a refresh or of a delivery: one that is open has its place
     fn end(&mut self, alloc: Global, pass: u32, call: Call) -> Result<Reply, AllocError>
         requires { is_end (event_of call) ≡ true }
-        ensures told { (made : Made) (h : History) → Stands self.old made h
-            → IfOk result (λ r. Tells made h (pass, event_of call) r self.new) }
+        ensures told { IfOk result (λ r. Adds self.old (pass, event_of call) r self.new) }
         ensures kind { IfOk result (λ r. answers (event_of call) r ≡ true) }
         ensures made { self.new.made ≡ self.old.made }
         ensures ended { ends_open self.old.state.edge pass (event_of call) ≡ true → IsOk result }
         ensures err { OnErr result (self.new ≡ self.old) }
     {
-        let entry = Entered {
-            pass,
-            call: stripped(&call),
-        };
+        let kept = stripped(&call);
         let reply = self.state.end(pass, call);
         take_place(
             alloc,
@@ -129,7 +159,11 @@ impl Node {
             &mut self.places,
             &reply,
         )?;
-        self.journal.push_reserved(entry);
+        self.journal.push_reserved(Entered {
+            pass,
+            call: kept,
+            need: need_of(&reply),
+        });
         self.reserved -= 1;
         Ok(reply)
     }
@@ -137,19 +171,44 @@ impl Node {
     // another call: what it opens has its places
     fn begin(&mut self, alloc: Global, pass: u32, call: Call) -> Result<Reply, AllocError>
         requires { is_end (event_of call) ≡ false }
-        ensures told { (made : Made) (h : History) → Stands self.old made h
-            → IfOk result (λ r. Tells made h (pass, event_of call) r self.new) }
+        ensures told { IfOk result (λ r. Adds self.old (pass, event_of call) r self.new) }
         ensures kind { IfOk result (λ r. answers (event_of call) r ≡ true) }
         ensures made { self.new.made ≡ self.old.made }
         ensures err { OnErr result (self.new ≡ self.old) }
     {
         reserve(alloc, &mut self.journal, &mut self.reserved, self.places, 3)?;
-        let reply = self.state.call(alloc, pass, &call)?;
-        self.places += begun_count(&reply);
-        self.journal.push_reserved(Entered { pass, call });
+        let answer = self.state.call(alloc, pass, &call);
+        let Ok(reply) = &answer else {
+            return answer;
+        };
+        self.places += begun_count(reply);
+        let need = need_of(reply);
+        self.journal.push_reserved(Entered { pass, call, need });
         self.reserved -= 1;
-        Ok(reply)
+        answer
     }
+}
+
+// gives up the oldest calls, as far as they are not needed
+fn give_up(journal: &mut Journal<Entered>, state: &State)
+    ensures stands { (m made : Made) (h : History) → Holds (node_view m state.now journal.old) made h
+        → Stands (node_view m state.now journal.new) made h }
+    ensures spare { journal.old.spare ≤ journal.new.spare }
+{
+    'front: while is_first_unneeded(state, journal) {
+        journal.retire(1);
+    }
+}
+
+// whether a call is stored, and the oldest one is not needed
+fn is_first_unneeded(state: &State, journal: &Journal<Entered>) -> bool
+    ensures { result ≡ is_first_unneeded state.now.seen journal.now.stored }
+{
+    if journal.stored() == 0 {
+        return false;
+    }
+    let first = journal.entry(0);
+    !state.is_needed(first.pass, &first.need)
 }
 
 // reserves so many places of the journal, and some more
@@ -166,6 +225,7 @@ fn reserve(
     ensures no_fewer { reserved.old ≤ reserved.new }
     ensures within { reserved.new ≤ journal.new.spare }
     ensures stored { journal.new.stored ≡ journal.old.stored }
+    ensures retired { journal.new.retired ≡ journal.old.retired }
 {
     let Some(wanted) = places.checked_add(more) else {
         return Err(AllocError);
@@ -189,6 +249,7 @@ fn grow(
     ensures no_fewer { reserved.old ≤ reserved.new }
     ensures within { reserved.new ≤ journal.new.spare }
     ensures stored { journal.new.stored ≡ journal.old.stored }
+    ensures retired { journal.new.retired ≡ journal.old.retired }
 {
     let twice = wanted.saturating_mul(2);
     if journal.reserve(alloc, twice).is_ok() {
@@ -217,6 +278,7 @@ fn take_place(
     ensures placed { places.new ≤ reserved.new }
     ensures within { reserved.new ≤ journal.new.spare }
     ensures stored { journal.new.stored ≡ journal.old.stored }
+    ensures retired { journal.new.retired ≡ journal.old.retired }
     ensures open { is_not_open reply.now ≡ false → IsOk result }
 {
     match reply {

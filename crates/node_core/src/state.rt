@@ -3,6 +3,8 @@
 ghost use Rattle.std.specs.Prelude.{◌≡◌, ◌≤◌, ◌+◌, ℕ, [], true, false, IfOk, OnErr};
 ghost use Rattle.std.specs.List.{list_any};
 ghost use Rattle.std.specs.Option.{option_map};
+ghost use Rattle.history.specs.Kept.{total};
+ghost use Rattle.shelf.specs.KeptShelf.{IsPartOf, IsPartOfOrKept};
 ghost use Rattle.shelf.specs.Open.{is_named};
 ghost use Rattle.delivery_core.specs.Traces.{reply_of, fetch_ended, finished, refresh_ended};
 ghost use Rattle.history.specs.After.{is_fetched, opened_by};
@@ -13,9 +15,11 @@ ghost use Rattle.node_core.specs.Answers.{answers, answers_admit, answers_cut, a
 ghost use Rattle.node_core.specs.Call.{is_end};
 ghost use Rattle.delivery_core.specs.OpenCount.{begun_count, open_count};
 ghost use Rattle.node_core.specs.State.{ends_open, Ends, Follows, Says};
-ghost use Rattle.node_core.specs.Triggering.{fetch_told, refresh_told};
+ghost use Rattle.node_core.specs.Triggering.{completes_purge, fetch_told, refresh_told};
 ghost use Rattle.node_core.specs.Logs.{dropped_log, logged};
+ghost use Rattle.node_core.specs.Needed.{is_needed_for};
 
+use crate::entered::Need;
 use cdni_base::{Asked, Limits, Moment, Text};
 use cdni_log::FileHead;
 use control_core::Control;
@@ -39,9 +43,9 @@ pub(crate) struct State {
 }
 
 impl Model for State {
-    ghost use Rattle.node_core.specs.State.{StateView, IsSound};
+    ghost use Rattle.node_core.specs.State.{StateHolding, IsSound};
 
-    ghost Value = { StateView };
+    ghost Value = { StateHolding };
 
     ghost use Rattle.std.specs.Coded.{codes, coded_list, coded×, coded_ℕ};
     ghost use Rattle.metadata_objects.specs.Coding.{level_code};
@@ -54,9 +58,12 @@ impl Model for State {
           (coded_list generic.the_row.coded) coded_ℕ))),
     ) };
 
-    ghost view = { λ c. record { edge = c.edge; control = c.control; origin = c.origin; opened = c.opened } };
+    ghost view = { λ c. record {
+      seen = record { edge = c.edge.seen; control = c.control; origin = c.origin; opened = c.opened };
+      held = c.edge.held;
+    } };
 
-    ghost invariant = { λ c. IsSound c.edge c.control c.opened };
+    ghost invariant = { λ c. IsSound c.edge.seen c.control c.opened };
 }
 
 impl State {
@@ -65,7 +72,8 @@ impl State {
     /// # Errors
     /// Want of memory.
     pub fn new(alloc: Global, limits: &Limits, origin: Text) -> Result<State, AllocError>
-        ensures { IfOk result (λ state. Follows state (record { limits = limits.now; origin = origin }) []) }
+        ensures follows { IfOk result (λ state. Follows state.seen (record { limits = limits.now; origin = origin }) []) }
+        ensures held { IfOk result (λ state. state.held ≡ []) }
     {
         let _opened = limits.opened;
         Ok(State {
@@ -76,15 +84,40 @@ impl State {
         })
     }
 
+    /// The lengths of all bodies that are in memory together, in bytes.
+    pub fn held(&self) -> u64
+        ensures { result ≡ total self.now.held }
+    {
+        self.edge.held()
+    }
+
+    /// Whether what a call of this pass may be needed for is open, or in no log file.
+    pub fn is_needed(&self, pass: u32, need: &Need) -> bool
+        ensures { result ≡ is_needed_for self.now.seen.edge pass need.now }
+    {
+        match need {
+            Need::Nothing => false,
+            Need::Delivery(delivery) => self.edge.has_delivery(pass, *delivery),
+            Need::Miss(delivery, fetch) => {
+                self.edge.has_delivery(pass, *delivery) || self.edge.has_fetch(pass, *fetch)
+            }
+            Need::Fetch(fetch) => self.edge.has_fetch(pass, *fetch),
+            Need::Refresh(refresh) => self.edge.has_refresh(pass, *refresh),
+            Need::Row(row) => self.edge.filed() < *row,
+        }
+    }
+
     /// Takes in the end of a fetch, of a refresh or of a delivery, and answers it as the history before it says. It takes
     /// no memory.
     pub fn end(&mut self, pass: u32, call: Call) -> Reply
         requires { is_end (event_of call) ≡ true }
-        ensures told { (made : Made) (h : History) → Follows self.old made h
-            → Says made h (pass, event_of call) result self.new }
+        ensures told { (made : Made) (h : History) → Follows self.old.seen made h
+            → Says made h (pass, event_of call) result self.new.seen }
         ensures kind { answers (event_of call) result ≡ true }
-        ensures origin { self.new.origin ≡ self.old.origin }
-        ensures ends { Ends self.old self.new (ends_open self.old.edge pass (event_of call)) result }
+        ensures origin { self.new.seen.origin ≡ self.old.seen.origin }
+        ensures ends { Ends self.old.seen self.new.seen (ends_open self.old.seen.edge pass (event_of call)) result }
+        ensures held { IsPartOfOrKept self.new.held self.old.held self.new.seen.edge.kept }
+        ensures closed { ends_open self.old.seen.edge pass (event_of call) ≡ false → self.new.held ≡ self.old.held }
     {
         match call {
             Call::RefreshEnd {
@@ -114,11 +147,14 @@ impl State {
     /// Want of memory. Nothing has changed then.
     pub fn call(&mut self, alloc: Global, pass: u32, call: &Call) -> Result<Reply, AllocError>
         requires { is_end (event_of call.now) ≡ false }
-        ensures told { (made : Made) (h : History) → Follows self.old made h
-            → IfOk result (λ r. Says made h (pass, event_of call.now) r self.new) }
+        ensures told { (made : Made) (h : History) → Follows self.old.seen made h
+            → IfOk result (λ r. Says made h (pass, event_of call.now) r self.new.seen) }
         ensures kind { IfOk result (λ r. answers (event_of call.now) r ≡ true) }
-        ensures origin { self.new.origin ≡ self.old.origin }
-        ensures places { IfOk result (λ r. open_count self.new.edge ≤ open_count self.old.edge + begun_count r) }
+        ensures origin { self.new.seen.origin ≡ self.old.seen.origin }
+        ensures places { IfOk result (λ r. open_count self.new.seen.edge ≤ open_count self.old.seen.edge + begun_count r) }
+        ensures held { IsPartOfOrKept self.new.held self.old.held self.new.seen.edge.kept }
+        ensures swept { IfOk result (λ r. completes_purge self.old.seen.control.triggers.triggers (event_of call.now) r ≡ true
+            → self.new.held ≡ self.new.seen.edge.kept) }
         ensures err { OnErr result (self.new ≡ self.old) }
     {
         match call {
@@ -148,11 +184,12 @@ impl State {
         pass: u32,
         moment: Moment,
     ) -> Result<Reply, AllocError>
-        ensures told { (made : Made) (h : History) → Follows self.old made h
-            → IfOk result (λ r. Says made h (pass, RefreshBegin moment) r self.new) }
+        ensures told { (made : Made) (h : History) → Follows self.old.seen made h
+            → IfOk result (λ r. Says made h (pass, RefreshBegin moment) r self.new.seen) }
         ensures kind { IfOk result (λ r. answers_refresh_begin r ≡ true) }
-        ensures origin { self.new.origin ≡ self.old.origin }
-        ensures places { IfOk result (λ r. open_count self.new.edge ≤ open_count self.old.edge + begun_count r) }
+        ensures origin { self.new.seen.origin ≡ self.old.seen.origin }
+        ensures places { IfOk result (λ r. open_count self.new.seen.edge ≤ open_count self.old.seen.edge + begun_count r) }
+        ensures held { self.new.held ≡ self.old.held }
         ensures err { OnErr result (self.new ≡ self.old) }
     {
         if let Some(next) = self.edge.not_due(moment) {
@@ -172,11 +209,12 @@ impl State {
     }
 
     fn refresh_end(&mut self, pass: u32, refresh: u64, tree: Option<Tree>) -> Reply
-        ensures told { (made : Made) (h : History) (moment : ℕ) → Follows self.old made h
-            → Says made h (pass, RefreshEnd refresh (option_map tree_view tree) moment) result self.new }
+        ensures told { (made : Made) (h : History) (moment : ℕ) → Follows self.old.seen made h
+            → Says made h (pass, RefreshEnd refresh (option_map tree_view tree) moment) result self.new.seen }
         ensures kind { answers_refresh_end result ≡ true }
-        ensures origin { self.new.origin ≡ self.old.origin }
-        ensures ends { Ends self.old self.new (list_any (is_named refresh pass) self.old.edge.refreshes) result }
+        ensures origin { self.new.seen.origin ≡ self.old.seen.origin }
+        ensures ends { Ends self.old.seen self.new.seen (list_any (is_named refresh pass) self.old.seen.edge.refreshes) result }
+        ensures held { self.new.held ≡ self.old.held }
     {
         let ended = self.edge.refresh_end(pass, refresh, tree);
         end_refresh(&mut self.control, refresh, ended);
@@ -191,11 +229,12 @@ impl State {
         place: Place,
         moment: Moment,
     ) -> Result<Reply, AllocError>
-        ensures told { (made : Made) (h : History) → Follows self.old made h
-            → IfOk result (λ r. Says made h (pass, Admit asked place moment) r self.new) }
+        ensures told { (made : Made) (h : History) → Follows self.old.seen made h
+            → IfOk result (λ r. Says made h (pass, Admit asked place moment) r self.new.seen) }
         ensures kind { IfOk result (λ r. answers_admit r ≡ true) }
-        ensures origin { self.new.origin ≡ self.old.origin }
-        ensures places { IfOk result (λ r. open_count self.new.edge ≤ open_count self.old.edge + begun_count r) }
+        ensures origin { self.new.seen.origin ≡ self.old.seen.origin }
+        ensures places { IfOk result (λ r. open_count self.new.seen.edge ≤ open_count self.old.seen.edge + begun_count r) }
+        ensures held { IsPartOf self.new.held self.old.held }
         ensures err { OnErr result (self.new ≡ self.old) }
     {
         let admitted = self
@@ -206,11 +245,13 @@ impl State {
     }
 
     fn fetch_end(&mut self, pass: u32, fetch: u64, outcome: Outcome) -> Reply
-        ensures told { (made : Made) (h : History) (moment : ℕ) → Follows self.old made h
-            → Says made h (pass, FetchEnd fetch outcome moment) result self.new }
+        ensures told { (made : Made) (h : History) (moment : ℕ) → Follows self.old.seen made h
+            → Says made h (pass, FetchEnd fetch outcome moment) result self.new.seen }
         ensures kind { answers_fetch_end result ≡ true }
-        ensures origin { self.new.origin ≡ self.old.origin }
-        ensures ends { Ends self.old self.new (list_any (is_named fetch pass) self.old.edge.fetches) result }
+        ensures origin { self.new.seen.origin ≡ self.old.seen.origin }
+        ensures ends { Ends self.old.seen self.new.seen (list_any (is_named fetch pass) self.old.seen.edge.fetches) result }
+        ensures held { IsPartOfOrKept self.new.held self.old.held self.new.seen.edge.kept }
+        ensures closed { list_any (is_named fetch pass) self.old.seen.edge.fetches ≡ false → self.new.held ≡ self.old.held }
     {
         let good = is_fetched(&outcome);
         let ended = self.edge.fetch_end(pass, fetch, outcome);
@@ -227,11 +268,12 @@ impl State {
         entity: u64,
         moment: Moment,
     ) -> Reply
-        ensures told { (made : Made) (h : History) → Follows self.old made h
-            → Says made h (pass, Finish delivery status total entity moment) result self.new }
+        ensures told { (made : Made) (h : History) → Follows self.old.seen made h
+            → Says made h (pass, Finish delivery status total entity moment) result self.new.seen }
         ensures kind { answers_finish result ≡ true }
-        ensures origin { self.new.origin ≡ self.old.origin }
-        ensures ends { Ends self.old self.new (list_any (is_named delivery pass) self.old.edge.deliveries) result }
+        ensures origin { self.new.seen.origin ≡ self.old.seen.origin }
+        ensures ends { Ends self.old.seen self.new.seen (list_any (is_named delivery pass) self.old.seen.edge.deliveries) result }
+        ensures held { self.new.held ≡ self.old.held }
     {
         let row = self
             .edge
@@ -240,11 +282,12 @@ impl State {
     }
 
     fn cut(&mut self, alloc: Global, moment: Moment) -> Result<Reply, AllocError>
-        ensures told { (made : Made) (h : History) (pass : ℕ) → Follows self.old made h
-            → IfOk result (λ r. Says made h (pass, Cut moment) r self.new) }
+        ensures told { (made : Made) (h : History) (pass : ℕ) → Follows self.old.seen made h
+            → IfOk result (λ r. Says made h (pass, Cut moment) r self.new.seen) }
         ensures kind { IfOk result (λ r. answers_cut r ≡ true) }
-        ensures origin { self.new.origin ≡ self.old.origin }
-        ensures same { open_count self.new.edge ≡ open_count self.old.edge }
+        ensures origin { self.new.seen.origin ≡ self.old.seen.origin }
+        ensures same { open_count self.new.seen.edge ≡ open_count self.old.seen.edge }
+        ensures held { self.new.held ≡ self.old.held }
         ensures err { OnErr result (self.new ≡ self.old) }
     {
         if self.edge.unfiled().len() == 0 {
@@ -273,16 +316,16 @@ impl State {
     }
 
     fn log_file(&self, number: u64) -> Result<Reply, AllocError>
-        ensures told { (made : Made) (h : History) (pass : ℕ) → Follows self.now made h
-            → IfOk result (λ r. Says made h (pass, LogFile number) r self.now) }
+        ensures told { (made : Made) (h : History) (pass : ℕ) → Follows self.now.seen made h
+            → IfOk result (λ r. Says made h (pass, LogFile number) r self.now.seen) }
         ensures kind { IfOk result (λ r. answers_log_file r ≡ true) }
     {
         log_reply(number, self.control.file_at(number))
     }
 
     fn list_logs(&self, alloc: Global) -> Result<Reply, AllocError>
-        ensures told { (made : Made) (h : History) (pass : ℕ) → Follows self.now made h
-            → IfOk result (λ r. Says made h (pass, ListLogs) r self.now) }
+        ensures told { (made : Made) (h : History) (pass : ℕ) → Follows self.now.seen made h
+            → IfOk result (λ r. Says made h (pass, ListLogs) r self.now.seen) }
         ensures kind { IfOk result (λ r. answers_list_logs r ≡ true) }
     {
         Ok(Reply::Numbers {
@@ -291,11 +334,12 @@ impl State {
     }
 
     fn drop_log(&mut self, number: u64) -> Reply
-        ensures told { (made : Made) (h : History) (pass : ℕ) → Follows self.old made h
-            → Says made h (pass, DropLog number) result self.new }
+        ensures told { (made : Made) (h : History) (pass : ℕ) → Follows self.old.seen made h
+            → Says made h (pass, DropLog number) result self.new.seen }
         ensures kind { answers_drop_log result ≡ true }
-        ensures origin { self.new.origin ≡ self.old.origin }
-        ensures same { self.new.edge ≡ self.old.edge }
+        ensures origin { self.new.seen.origin ≡ self.old.seen.origin }
+        ensures same { self.new.seen.edge ≡ self.old.seen.edge }
+        ensures held { self.new.held ≡ self.old.held }
     {
         let dropped = self.control.drop_file(number);
         reply_of_drop(number, dropped)

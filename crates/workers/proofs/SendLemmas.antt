@@ -23,6 +23,7 @@ use Rattle.node_core.specs.contracts.node.Node as node
 use Rattle.delivery_core.specs.contracts.installed.Installed as installed
 use Rattle.delivery_core.specs.contracts.installed.Installed.TheInside as inside
 use Rattle.std.proofs.option.Option.TheSendSync as maybes
+use Rattle.inheritance.proofs.host_table.HostTable.TheSendSync as tables
 use Rattle.delivery_core.specs.contracts.edge.Edge as edge
 use Rattle.shelf.proofs.kept_shelf.Shelf.TheSendSync as shelves
 use Rattle.delivery_core.proofs.records.Records.TheSendSync as records
@@ -44,6 +45,7 @@ use Rattle.workers.specs.contracts.job.Job as job
 use Rattle.targets.proofs.endpoint.Endpoint.TheSendSync as endpoints
 use Rattle.listing.proofs.list.Listing.TheSendSync as lists
 use Rattle.cdni_base.proofs.key.Key.TheSendSync as keys
+use Rattle.node_core.proofs.entered.Need.TheSendSync as needs
 use Rattle.upstream_gate.proofs.outcome.Outcome.TheSendSync as outcomes
 use Rattle.trigger_command.proofs.spec.Spec.TheSendSync as specs
 use Rattle.cdni_base.proofs.asked.Asked.TheSendSync as askeds
@@ -64,10 +66,22 @@ call_send : IsSend call.the_row
 call_send = search (sendable, crosses, tree_send, outcomes.the_field_send, specs.the_send, askeds.the_field_send) depth 40
 
 entered_send : IsSend entered.the_row
-entered_send = declared_send entered.the_type (search sendable, (call_send, tt))
+entered_send = declared_send entered.the_type (search sendable, (call_send, (search (sendable, crosses, needs.the_field_send) depth 20, tt)))
 
 installed_send : IsSend installed.the_row
-installed_send = view_send _ _ _ _ _ (declared_send inside.the_type (tree_send, (search sendable, (search sendable, (search (sendable, crosses, maybes.the_send) depth 20, tt)))))
+installed_send = view_send _ _ _ _ _ (declared_send inside.the_type (
+  tree_send,
+  (
+    search sendable,
+    (
+      search sendable,
+      (
+        search (sendable, crosses, maybes.the_send) depth 20,
+        (search (sendable, crosses, maybes.the_send, tables.the_send) depth 20, tt),
+      ),
+    ),
+  ),
+))
 
 edge_send : IsSend edge.the_row
 edge_send = search (sendable, crosses, installed_send, limits.the_send, shelves.the_send, records.the_send, refreshes.the_send) depth 40

@@ -9,7 +9,8 @@ ghost use Rattle.history.specs.World.{Made};
 ghost use Rattle.node_core.specs.Answers.{answers_advance, answers_cancel, answers_command, answers_delete, answers_list, answers_read_status};
 ghost use Rattle.node_core.specs.State.{Follows, Says};
 ghost use Rattle.history.specs.declared.reply.Reply.TheVariants as reply;
-ghost use Rattle.node_core.specs.Triggering.{cancel_reply, delete_reply, skipped_state, started_by, status_reply, url_of};
+ghost use Rattle.node_core.specs.Triggering.{cancel_reply, completes_purge, delete_reply, is_purge, skipped_state, started_by, status_reply, swept_by, url_of};
+ghost use Rattle.shelf.specs.KeptShelf.{IsPartOfOrKept};
 ghost use Rattle.trigger_table.specs.State.{next_step};
 ghost use Rattle.trigger_table.specs.declared.step.Step.TheVariants as step;
 
@@ -30,11 +31,12 @@ impl State {
         spec: Spec,
         moment: Moment,
     ) -> Result<Reply, AllocError>
-        ensures told { (made : Made) (h : History) (pass : ℕ) → Follows self.old made h
-            → IfOk result (λ r. Says made h (pass, Command spec moment) r self.new) }
+        ensures told { (made : Made) (h : History) (pass : ℕ) → Follows self.old.seen made h
+            → IfOk result (λ r. Says made h (pass, Command spec moment) r self.new.seen) }
         ensures kind { IfOk result (λ r. answers_command r ≡ true) }
-        ensures origin { self.new.origin ≡ self.old.origin }
-        ensures same { self.new.edge ≡ self.old.edge }
+        ensures origin { self.new.seen.origin ≡ self.old.seen.origin }
+        ensures same { self.new.seen.edge ≡ self.old.seen.edge }
+        ensures held { self.new.held ≡ self.old.held }
         ensures err { OnErr result (self.new ≡ self.old) }
     {
         let count = self.control.job_count();
@@ -61,16 +63,19 @@ impl State {
         id: u64,
         moment: Moment,
     ) -> Result<Reply, AllocError>
-        ensures told { (made : Made) (h : History) → Follows self.old made h
-            → IfOk result (λ r. Says made h (pass, Advance id moment) r self.new) }
+        ensures told { (made : Made) (h : History) → Follows self.old.seen made h
+            → IfOk result (λ r. Says made h (pass, Advance id moment) r self.new.seen) }
         ensures kind { IfOk result (λ r. answers_advance r ≡ true) }
-        ensures origin { self.new.origin ≡ self.old.origin }
-        ensures places { IfOk result (λ r. open_count self.new.edge ≤ open_count self.old.edge + begun_count r) }
+        ensures origin { self.new.seen.origin ≡ self.old.seen.origin }
+        ensures places { IfOk result (λ r. open_count self.new.seen.edge ≤ open_count self.old.seen.edge + begun_count r) }
+        ensures held { IsPartOfOrKept self.new.held self.old.held self.new.seen.edge.kept }
+        ensures swept { IfOk result (λ r. completes_purge self.old.seen.control.triggers.triggers (Advance id moment) r ≡ true
+            → self.new.held ≡ self.new.seen.edge.kept) }
         ensures err { OnErr result (self.new ≡ self.old) }
     {
         match self.control.next_step(pass, id) {
             Step::Unknown => Ok(Reply::Unknown { id }),
-            Step::Final(status) => Ok(Reply::Final { status }),
+            Step::Final(status) => Ok(self.ended_step(id, status)),
             Step::Claimed(claimant) => Ok(Reply::Claimed { pass: claimant }),
             Step::StepOpen(number) => Ok(Reply::StepOpen { number }),
             Step::Start => self.start_step(alloc, pass, id, moment),
@@ -88,12 +93,15 @@ impl State {
         id: u64,
         moment: Moment,
     ) -> Result<Reply, AllocError>
-        requires { next_step pass (trigger_of id self.old.control.triggers.triggers) ≡ step.Start }
-        ensures told { (made : Made) (h : History) → Follows self.old made h
-            → IfOk result (λ r. Says made h (pass, Advance id moment) r self.new) }
+        requires { next_step pass (trigger_of id self.old.seen.control.triggers.triggers) ≡ step.Start }
+        ensures told { (made : Made) (h : History) → Follows self.old.seen made h
+            → IfOk result (λ r. Says made h (pass, Advance id moment) r self.new.seen) }
         ensures kind { IfOk result (λ r. answers_advance r ≡ true) }
-        ensures origin { self.new.origin ≡ self.old.origin }
-        ensures places { IfOk result (λ r. open_count self.new.edge ≤ open_count self.old.edge + begun_count r) }
+        ensures origin { self.new.seen.origin ≡ self.old.seen.origin }
+        ensures places { IfOk result (λ r. open_count self.new.seen.edge ≤ open_count self.old.seen.edge + begun_count r) }
+        ensures held { self.new.held ≡ self.old.held }
+        ensures swept { IfOk result (λ r. completes_purge self.old.seen.control.triggers.triggers (Advance id moment) r ≡ true
+            → self.new.held ≡ self.new.seen.edge.kept) }
         ensures err { OnErr result (self.new ≡ self.old) }
     {
         if self.opened == self.edge.limits().opened {
@@ -113,12 +121,15 @@ impl State {
         id: u64,
         moment: Moment,
     ) -> Result<Reply, AllocError>
-        requires { next_step pass (trigger_of id self.old.control.triggers.triggers) ≡ step.Refresh }
-        ensures told { (made : Made) (h : History) → Follows self.old made h
-            → IfOk result (λ r. Says made h (pass, Advance id moment) r self.new) }
+        requires { next_step pass (trigger_of id self.old.seen.control.triggers.triggers) ≡ step.Refresh }
+        ensures told { (made : Made) (h : History) → Follows self.old.seen made h
+            → IfOk result (λ r. Says made h (pass, Advance id moment) r self.new.seen) }
         ensures kind { IfOk result (λ r. answers_advance r ≡ true) }
-        ensures origin { self.new.origin ≡ self.old.origin }
-        ensures places { IfOk result (λ r. open_count self.new.edge ≤ open_count self.old.edge + begun_count r) }
+        ensures origin { self.new.seen.origin ≡ self.old.seen.origin }
+        ensures places { IfOk result (λ r. open_count self.new.seen.edge ≤ open_count self.old.seen.edge + begun_count r) }
+        ensures held { self.new.held ≡ self.old.held }
+        ensures swept { IfOk result (λ r. completes_purge self.old.seen.control.triggers.triggers (Advance id moment) r ≡ true
+            → self.new.held ≡ self.new.seen.edge.kept) }
         ensures err { OnErr result (self.new ≡ self.old) }
     {
         if self.opened == self.edge.limits().opened {
@@ -145,12 +156,15 @@ impl State {
         place: u32,
         moment: Moment,
     ) -> Result<Reply, AllocError>
-        requires { next_step pass (trigger_of id self.old.control.triggers.triggers) ≡ step.Url place }
-        ensures told { (made : Made) (h : History) → Follows self.old made h
-            → IfOk result (λ r. Says made h (pass, Advance id moment) r self.new) }
+        requires { next_step pass (trigger_of id self.old.seen.control.triggers.triggers) ≡ step.Url place }
+        ensures told { (made : Made) (h : History) → Follows self.old.seen made h
+            → IfOk result (λ r. Says made h (pass, Advance id moment) r self.new.seen) }
         ensures kind { IfOk result (λ r. answers_advance r ≡ true) }
-        ensures origin { self.new.origin ≡ self.old.origin }
-        ensures places { IfOk result (λ r. open_count self.new.edge ≤ open_count self.old.edge + begun_count r) }
+        ensures origin { self.new.seen.origin ≡ self.old.seen.origin }
+        ensures places { IfOk result (λ r. open_count self.new.seen.edge ≤ open_count self.old.seen.edge + begun_count r) }
+        ensures held { self.new.held ≡ self.old.held }
+        ensures swept { IfOk result (λ r. completes_purge self.old.seen.control.triggers.triggers (Advance id moment) r ≡ true
+            → self.new.held ≡ self.new.seen.edge.kept) }
         ensures err { OnErr result (self.new ≡ self.old) }
     {
         let Some(target) = url_of(self.control.job(id), place)? else {
@@ -180,9 +194,10 @@ impl State {
 
     // it skips the content URL at this place
     fn skip_step(&mut self, pass: u32, id: u64, place: u32, moment: Moment) -> Reply
-        requires { next_step pass (trigger_of id self.old.control.triggers.triggers) ≡ step.Url place }
+        requires { next_step pass (trigger_of id self.old.seen.control.triggers.triggers) ≡ step.Url place }
         ensures reply { result ≡ reply.Skipped place }
-        ensures after { self.new ≡ skipped_state self.old id place }
+        ensures after { self.new.seen ≡ skipped_state self.old.seen id place }
+        ensures held { self.new.held ≡ self.old.held }
     {
         self.control.step_done(id, pass, moment);
         self.control.step_ended(id, false);
@@ -191,15 +206,29 @@ impl State {
 
     // it ends
     fn end_step(&mut self, pass: u32, id: u64, status: JobStatus, moment: Moment) -> Reply
-        requires { next_step pass (trigger_of id self.old.control.triggers.triggers) ≡ step.End status }
-        ensures told { (made : Made) (h : History) → Follows self.old made h
-            → Says made h (pass, Advance id moment) result self.new }
+        requires { next_step pass (trigger_of id self.old.seen.control.triggers.triggers) ≡ step.End status }
+        ensures reply { result ≡ reply.Final status }
+        ensures told { (made : Made) (h : History) → Follows self.old.seen made h
+            → Says made h (pass, Advance id moment) result self.new.seen }
         ensures kind { answers_advance result ≡ true }
-        ensures origin { self.new.origin ≡ self.old.origin }
-        ensures same { self.new.edge ≡ self.old.edge }
+        ensures origin { self.new.seen.origin ≡ self.old.seen.origin }
+        ensures same { self.new.seen.edge ≡ self.old.seen.edge }
+        ensures held { IsPartOfOrKept self.new.held self.old.held self.new.seen.edge.kept }
+        ensures swept { is_purge id self.old.seen.control.triggers.triggers ≡ true → self.new.held ≡ self.new.seen.edge.kept }
     {
         sweep_after(&mut self.edge, self.control.job(id));
         self.control.step_done(id, pass, moment);
+        Reply::Final { status }
+    }
+
+    // it has ended before; what a purge and others since have taken back leaves memory all the same
+    fn ended_step(&mut self, id: u64, status: JobStatus) -> Reply
+        ensures reply { result ≡ reply.Final status }
+        ensures seen { self.new.seen ≡ self.old.seen }
+        ensures held { IsPartOfOrKept self.new.held self.old.held self.new.seen.edge.kept }
+        ensures swept { is_purge id self.old.seen.control.triggers.triggers ≡ true → self.new.held ≡ self.new.seen.edge.kept }
+    {
+        sweep_after(&mut self.edge, self.control.job(id));
         Reply::Final { status }
     }
 
@@ -210,11 +239,12 @@ impl State {
         ids: &IdList,
         moment: Moment,
     ) -> Result<Reply, AllocError>
-        ensures told { (made : Made) (h : History) (pass : ℕ) → Follows self.old made h
-            → IfOk result (λ r. Says made h (pass, Cancel ids.now moment) r self.new) }
+        ensures told { (made : Made) (h : History) (pass : ℕ) → Follows self.old.seen made h
+            → IfOk result (λ r. Says made h (pass, Cancel ids.now moment) r self.new.seen) }
         ensures kind { IfOk result (λ r. answers_cancel r ≡ true) }
-        ensures origin { self.new.origin ≡ self.old.origin }
-        ensures same { self.new.edge ≡ self.old.edge }
+        ensures origin { self.new.seen.origin ≡ self.old.seen.origin }
+        ensures same { self.new.seen.edge ≡ self.old.seen.edge }
+        ensures held { self.new.held ≡ self.old.held }
         ensures err { OnErr result (self.new ≡ self.old) }
     {
         let cancelled = self.control.cancel(alloc, ids, moment)?;
@@ -223,11 +253,12 @@ impl State {
 
     // the upstream CDN deletes a trigger
     pub(crate) fn delete(&mut self, id: u64) -> Reply
-        ensures told { (made : Made) (h : History) (pass : ℕ) → Follows self.old made h
-            → Says made h (pass, Delete id) result self.new }
+        ensures told { (made : Made) (h : History) (pass : ℕ) → Follows self.old.seen made h
+            → Says made h (pass, Delete id) result self.new.seen }
         ensures kind { answers_delete result ≡ true }
-        ensures origin { self.new.origin ≡ self.old.origin }
-        ensures same { self.new.edge ≡ self.old.edge }
+        ensures origin { self.new.seen.origin ≡ self.old.seen.origin }
+        ensures same { self.new.seen.edge ≡ self.old.seen.edge }
+        ensures held { self.new.held ≡ self.old.held }
     {
         let deleted = self.control.delete(id);
         reply_of_delete(id, deleted)
@@ -235,8 +266,8 @@ impl State {
 
     // the upstream CDN reads a trigger
     pub(crate) fn read_status(&self, id: u64) -> Result<Reply, AllocError>
-        ensures told { (made : Made) (h : History) (pass : ℕ) → Follows self.now made h
-            → IfOk result (λ r. Says made h (pass, ReadStatus id) r self.now) }
+        ensures told { (made : Made) (h : History) (pass : ℕ) → Follows self.now.seen made h
+            → IfOk result (λ r. Says made h (pass, ReadStatus id) r self.now.seen) }
         ensures kind { IfOk result (λ r. answers_read_status r ≡ true) }
     {
         reply_of_status(id, self.control.job(id))
@@ -244,8 +275,8 @@ impl State {
 
     // the upstream CDN lists triggers
     pub(crate) fn list(&self, alloc: Global, filter: Filter) -> Result<Reply, AllocError>
-        ensures told { (made : Made) (h : History) (pass : ℕ) → Follows self.now made h
-            → IfOk result (λ r. Says made h (pass, Lists filter) r self.now) }
+        ensures told { (made : Made) (h : History) (pass : ℕ) → Follows self.now.seen made h
+            → IfOk result (λ r. Says made h (pass, Lists filter) r self.now.seen) }
         ensures kind { IfOk result (λ r. answers_list r ≡ true) }
     {
         Ok(Reply::Collection {
@@ -257,8 +288,9 @@ impl State {
 
 // an invalidate or a purge becomes active
 fn start_by(alloc: Global, edge: &mut Edge, job: Option<&Job>) -> Result<(), AllocError>
-    requires { edge.old.started ≤ 2 ^ 62 }
-    ensures after { OnOk result (edge.new ≡ started_by edge.old (option_map (λ j. j.now) job.entry)) }
+    requires { edge.old.seen.started ≤ 2 ^ 62 }
+    ensures after { OnOk result (edge.new.seen ≡ started_by edge.old.seen (option_map (λ j. j.now) job.entry)) }
+    ensures held { edge.new.held ≡ edge.old.held }
     ensures err { OnErr result (edge.new ≡ edge.old) }
 {
     let Some(job) = job else {
@@ -274,7 +306,7 @@ fn start_by(alloc: Global, edge: &mut Edge, job: Option<&Job>) -> Result<(), All
 
 // what a purge has taken back leaves memory at its end at the latest (RFC 8007, section 5.2.2)
 fn sweep_after(edge: &mut Edge, job: Option<&Job>)
-    ensures { edge.new ≡ edge.old }
+    ensures { edge.new ≡ swept_by edge.old (option_map (λ j. j.now) job.entry) }
 {
     let Some(job) = job else {
         return;

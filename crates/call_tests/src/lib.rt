@@ -17,4 +17,6 @@ mod metadata;
 #[cfg(test)]
 mod places;
 #[cfg(test)]
+mod tables;
+#[cfg(test)]
 mod urls;

@@ -190,7 +190,16 @@ fn other_words_are_no_command(rt: HostRuntime) -> Result<(), Fail> {
         "",
         "Replay",
         "replay replay",
-        "replay --summary",
+        "--summary",
+        "--summary replay",
+        "replay --Summary",
+        "replay --summary=",
+        "replay --summary --summary",
+        "generate",
+        "generate 1",
+        "generate 0 0",
+        "generate 01 0",
+        "generate 1 0 0",
         "--help",
         "--version",
     ] {
@@ -288,7 +297,7 @@ fn document(
 }
 
 // what is limited; before, opening, closing, after; and how often opening and closing stand, with the answers
-const LIMITS: [(&str, &str, &str, &str, &str, u32, &str); 13] = [
+const LIMITS: [(&str, &str, &str, &str, &str, u32, &str); 15] = [
     (
         "an endpoint that does not read",
         "{\"hosts\":[{\"host\":\"a\",\"host-metadata\":{\"metadata\":[{\"generic-metadata-type\":\"MI.SourceMetadata\",\"generic-metadata-value\":{\"sources\":[{\"protocol\":\"http/1.1\",\"endpoints\":[\"o\"",
@@ -406,10 +415,28 @@ const LIMITS: [(&str, &str, &str, &str, &str, u32, &str); 13] = [
         16,
         "due 1\ninstalled 1\ndenied 1 403 unenforceable mi.sourcemetadata\n",
     ),
+    (
+        "items of a selection",
+        "{\"hosts\":[]}\n0 0 command {\"cdn-path\":[],\"trigger\":{\"type\":\"purge\",\"content.urls\":[\"http://a/\"",
+        ",\"http://a/\"",
+        "",
+        "]}}\n",
+        999,
+        "due 1\ninstalled 1\ncreated 1\n",
+    ),
+    (
+        "items of a selection",
+        "{\"hosts\":[]}\n0 0 command {\"cdn-path\":[],\"trigger\":{\"type\":\"purge\",\"content.urls\":[\"http://a/\"",
+        ",\"http://a/\"",
+        "",
+        "]}}\n",
+        1000,
+        "due 1\ninstalled 1\nrefused too-many 1001\n",
+    ),
 ];
 
 #[test]
-fn limits_of_metadata(rt: HostRuntime) -> Result<(), Fail> {
+fn limits_of_documents(rt: HostRuntime) -> Result<(), Fail> {
     for (name, before, opening, closing, after, count, answers) in LIMITS {
         let script = document(rt.alloc(), before, opening, closing, after, count)?;
         let (status, written) = replayed(rt.alloc(), script.as_str(), &[], &[])?;

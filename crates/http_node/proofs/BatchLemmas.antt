@@ -4,7 +4,7 @@ use Rattle.std.specs.declared.option.Option.{Option}
 use Rattle.std.proofs.Math.Seq.{take-append_seam}
 use Rattle.std.proofs.lemmas.List.{length-take}
 use Rattle.edge_base.specs.declared.status.Status.TheVariants as status
-use Rattle.http_node.specs.Batch.{Stops, MeetsNone, status_of}
+use Rattle.http_node.specs.Batch.{Stops, MeetsNone, status_of, ReadsSummary, ReadsNone}
 use Rattle.replay_script.specs.Script.{answers_read}
 use Rattle.replay_script.specs.Replay.{Reads}
 use Rattle.replay_script.specs.declared.script.ReplayEnd.{ReplayEnd}
@@ -42,3 +42,15 @@ script_cause None after old new end r m = absurd m
 script_cause (Some before) None old new end r m = absurd m
 script_cause (Some before) (Some after) None new end r m = absurd m
 script_cause (Some before) (Some after) (Some old) None end r m = absurd m
+
+-- ---- the summary
+
+-- a line that was read and is none decides the status
+pub summary_cause : (before after : Option (List ℕ)) (end : ReplayEnd) → ReadsSummary before after (status_of end) → ReadsNone before after → (status_of end ≡ status.Script) ⊎ (status_of end ≡ status.Memory)
+summary_cause before after (replay_end.NotALine line at) r m = inl refl
+summary_cause before after replay_end.Memory r m = inr refl
+summary_cause (Some before) (Some after) replay_end.Done r m = absurd (never_stops r.0 m.0 (same_front r.0 m.0 after before r.1 m.1) r.2 m.2)
+summary_cause (Some before) (Some after) replay_end.ReadFault r m = absurd (never_stops r.0 m.0 (same_front r.0 m.0 after before r.1 m.1) r.2 m.2)
+summary_cause (Some before) (Some after) replay_end.WriteFault r m = absurd (never_stops r.0 m.0 (same_front r.0 m.0 after before r.1 m.1) r.2 m.2)
+summary_cause None after end r m = absurd m
+summary_cause (Some before) None end r m = absurd m

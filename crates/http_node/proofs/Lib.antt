@@ -1,3 +1,4 @@
 mod BatchLemmas
+mod GeneratedLemmas
 pub mod ServeLemmas
 pub mod TestLemmas

@@ -1,21 +1,15 @@
 -- How a command ends.
-use Rattle.std.specs.Prelude.{◌≡◌, ℕ, Bool, false, List, [], ◌∷◌, ◌++◌, codes, bytes_eq, None, Some, ◌⊎◌, String, string_bytes}
+use Rattle.std.specs.Prelude.{◌≡◌, ℕ, List, ◌++◌, None, Some, ◌⊎◌}
 use Rattle.std.specs.declared.option.Option.{Option}
-use Rattle.std.specs.declared.alloc.Global.{Global}
-use Rattle.std.specs.Io.KnownBytes.{Appends, Consumes, IsAtEnd}
+use Rattle.std.specs.Io.KnownBytes.{Appends, Consumes, Keeps, IsAtEnd}
+use Rattle.answer_summary.specs.Summary.{summary_text}
 use Rattle.edge_base.specs.declared.status.Status.{Status}
 use Rattle.edge_base.specs.declared.status.Status.TheVariants as status
 use Rattle.http_node.specs.Note.{note_of}
-use Rattle.replay_script.specs.Script.{answers, answers_read}
+use Rattle.replay_script.specs.Script.{answers, answers_read, summary_rows}
 use Rattle.replay_script.specs.Replay.{IsTold, AppendsFront, AppendsPart}
 use Rattle.replay_script.specs.declared.script.ReplayEnd.{ReplayEnd}
 use Rattle.replay_script.specs.declared.script.ReplayEnd.TheVariants as replay_end
-
--- the one command: the word `replay`
-abbrev pub is_replay : List (String Global) → Bool
-is_replay [] = false
-is_replay (word ∷ []) = bytes_eq (string_bytes word) (codes "replay")
-is_replay (word ∷ next ∷ words) = false
 
 -- the status of the end of a replay
 abbrev pub status_of : ReplayEnd → Status
@@ -69,3 +63,63 @@ MeetsNone (Some before) (Some after) (Some old) (Some new) =
     (bytes : List ℕ) × (before ≡ bytes ++ after) × Stops (answers_read bytes).stops
     × (new ≡ old ++ (answers_read bytes).text)
 MeetsNone before after old new = ⊥
+
+-- ---- the summary
+
+-- the text of the summary of the answers of a script
+abbrev pub summary_of : List ℕ → List ℕ
+summary_of script = summary_text (summary_rows script)
+
+-- what the status of the whole command says of the script, of what is left of it, and of the output: nothing is written
+-- where a line is none or the input failed
+abbrev pub SummaryAt : List ℕ → Option (List ℕ) → Option (List ℕ) → Option (List ℕ) → Status → Type 0
+SummaryAt script left old new status.Done = IsAtEnd left × ((answers script).stops ≡ None)
+    × Appends old new (summary_of script)
+SummaryAt script left old new status.Script = Stops (answers script).stops × Keeps old new
+SummaryAt script left old new status.Usage = ⊥
+SummaryAt script left old new status.ReadFault = Keeps old new
+SummaryAt script left old new status.WriteFault = IsAtEnd left × ((answers script).stops ≡ None)
+    × AppendsPart old new (summary_of script)
+SummaryAt script left old new status.Memory = AppendsFront old new (summary_of script)
+SummaryAt script left old new status.Outside = ⊥
+
+-- the same of the end, with the number and place of a line that is none
+abbrev pub SummaryEndsAt : List ℕ → Option (List ℕ) → Option (List ℕ) → Option (List ℕ) → ReplayEnd → Type 0
+SummaryEndsAt script left old new replay_end.Done = IsAtEnd left × ((answers script).stops ≡ None)
+    × Appends old new (summary_of script)
+SummaryEndsAt script left old new (replay_end.NotALine line at) = ((answers script).stops ≡ Some (line, at))
+    × Keeps old new
+SummaryEndsAt script left old new replay_end.ReadFault = Keeps old new
+SummaryEndsAt script left old new replay_end.WriteFault = IsAtEnd left × ((answers script).stops ≡ None)
+    × AppendsPart old new (summary_of script)
+SummaryEndsAt script left old new replay_end.Memory = AppendsFront old new (summary_of script)
+
+abbrev pub WritesSummary : Option (List ℕ) → Option (List ℕ) → Option (List ℕ) → Option (List ℕ) → ReplayEnd → Type 0
+WritesSummary before after old new result = (script : List ℕ) × IsTold before script
+    × SummaryEndsAt script after old new result
+
+-- the same of the script that the input tells, and the note of the status was given so
+abbrev pub Sums : Option (List ℕ) → Option (List ℕ) → Option (List ℕ) → Option (List ℕ) → (List ℕ → Type 0) → Status
+    → Type 0
+Sums before after old new noted result = (script : List ℕ) × IsTold before script
+    × SummaryAt script after old new result × noted (note_of result (answers script).stops)
+
+-- what it says of the bytes that were read: a line that is none was read whole, or the input ended in it; with no other
+-- status but want of memory was a line read whole that is none
+abbrev pub SummedAt : List ℕ → Option (List ℕ) → Status → Type 0
+SummedAt bytes left status.Done = (answers_read bytes).stops ≡ None
+SummedAt bytes left status.Script = Stops (answers_read bytes).stops ⊎ IsAtEnd left
+SummedAt bytes left status.Usage = ⊥
+SummedAt bytes left status.ReadFault = (answers_read bytes).stops ≡ None
+SummedAt bytes left status.WriteFault = (answers_read bytes).stops ≡ None
+SummedAt bytes left status.Memory = Unit {0}
+SummedAt bytes left status.Outside = ⊥
+
+abbrev pub ReadsSummary : Option (List ℕ) → Option (List ℕ) → Status → Type 0
+ReadsSummary before after result = (bytes : List ℕ) × Consumes before after bytes × SummedAt bytes after result
+
+-- where the input tells: a line was read whole that is none
+abbrev pub ReadsNone : Option (List ℕ) → Option (List ℕ) → Type 0
+ReadsNone (Some before) (Some after) =
+    (bytes : List ℕ) × (before ≡ bytes ++ after) × Stops (answers_read bytes).stops
+ReadsNone before after = ⊥

@@ -1,3 +1,4 @@
 pub mod Batch
+pub mod Command
 pub mod Note
 pub mod Serve

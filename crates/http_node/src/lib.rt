@@ -2,6 +2,8 @@
 #![tactic(auto)]
 
 mod batch;
+mod command;
+mod law;
 mod note;
 mod serve;
 #[cfg(test)]

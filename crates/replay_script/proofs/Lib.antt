@@ -1,3 +1,5 @@
 mod AheadLemmas
+pub mod ReadingLemmas
 pub mod ReplayLemmas
-mod ScriptLemmas
+pub mod ScriptLemmas
+pub mod SummaryLemmas

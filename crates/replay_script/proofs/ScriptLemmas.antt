@@ -1,5 +1,5 @@
 -- Lines of a script, and the answers from a line on.
-use Rattle.std.proofs.Common.{◌≡◌, ℕ, ◌+◌, ◌<◌, ◌≤◌, ◌==◌, Bool, true, false, cond, not, List, [], ◌∷◌, ◌++◌, length, filter, refl, sym, ◌∙◌, ap, subst, arith, None, Some, nat_le, append_assoc}
+use Rattle.std.proofs.Common.{◌≡◌, ℕ, ◌+◌, ◌<◌, ◌≤◌, ◌==◌, Bool, true, false, cond, not, List, [], ◌∷◌, ◌++◌, length, filter, refl, sym, ◌∙◌, ap, subst, arith, None, Some, nat_le, append_assoc, append-nil}
 use Rattle.std.specs.List.{list_all}
 use Rattle.std.specs.declared.option.Option.{Option}
 use Rattle.std.proofs.lemmas.Bool.{and_parts, and_left, and_right, cond-false, not-true, lt-leb, le-leb, leb-true, or_right}
@@ -15,7 +15,8 @@ use Rattle.replay_script.specs.declared.step.TheConstants.{LINE_LIMIT}
 use Rattle.replay_script.specs.declared.step.TheConstants.{SCRIPT_LIMIT}
 use Rattle.replay_script.specs.declared.step.Stepped.{Stepped}
 use Rattle.replay_script.specs.declared.step.Stepped.TheVariants as stepped
-use Rattle.replay_script.specs.Script.{next_said, is_allowed, fits, Past, grown, answer_of, SetsLimits, Answers, AnswersRefusal, StepsTo, Answered, with_text, answers_from}
+use Rattle.replay_script.specs.Script.{next_said, is_allowed, fits, Past, grown, answer_of, SetsLimits, Answers, AnswersRefusal, StepsTo, Listed, with_answer, listed_from, listed_of, joined, answers_of}
+use Rattle.replay_script.specs.Reading.{with_each}
 
 -- ---- lines
 
@@ -143,22 +144,32 @@ module _ (node : NodeView) (first : Bool) (at : ℕ) (body : List ℕ) (in_limit
 -- ---- answers
 
 module _ (number at : ℕ) (past : Past) (line : Line) (lines : List Line) where
-  pub answers_stop : next_said (number == 1) at line ≡ None → answers_from number at past (line ∷ lines) ≡ record { text = []; stops = Some (number, at) }
-  unfolding answers_from
-  answers_stop none = rw none refl
+  pub listed_stop : next_said (number == 1) at line ≡ None → listed_from number at past (line ∷ lines) ≡ record { each = []; stops = Some (number, at) }
+  unfolding listed_from
+  listed_stop none = rw none refl
 
-  pub answers_next : (said : Said) → next_said (number == 1) at line ≡ Some said
-      → answers_from number at past (line ∷ lines) ≡ with_text (answer_of past said) (answers_from (number + 1) (at + (length line.body + 1)) (grown past said) lines)
-  unfolding answers_from
-  answers_next said some = rw some refl
+  pub listed_next : (said : Said) → next_said (number == 1) at line ≡ Some said
+      → listed_from number at past (line ∷ lines) ≡ with_answer (answer_of past said) (listed_from (number + 1) (at + (length line.body + 1)) (grown past said) lines)
+  unfolding listed_from
+  listed_next said some = rw some refl
 
-pub answers_nothing : (number at : ℕ) (past : Past) → answers_from number at past [] ≡ record { text = []; stops = None }
-unfolding answers_from
-answers_nothing number at past = refl
+pub listed_nothing : (number at : ℕ) (past : Past) → listed_from number at past [] ≡ record { each = []; stops = None }
+unfolding listed_from
+listed_nothing number at past = refl
 
-pub answers_none : (number at : ℕ) (past : Past) → answers_from number at past (lines_of []) ≡ record { text = []; stops = None }
-unfolding answers_from lines_of
-answers_none number at past = refl
+pub listed_none : (number at : ℕ) (past : Past) → listed_from number at past (lines_of []) ≡ record { each = []; stops = None }
+unfolding listed_from lines_of
+listed_none number at past = refl
 
-pub with_text-trans : (one two : List ℕ) (rest : Answered) → with_text one (with_text two rest) ≡ with_text (one ++ two) rest
-with_text-trans one two rest = let same : (text : List ℕ) → Answered = λ text. record { text = text; stops = rest.stops } in ap same (sym (append_assoc one two rest.text))
+-- one answer more was given
+pub with_each-more : (given : List (List ℕ)) (answer : List ℕ) (rest : Listed) → with_each given (with_answer answer rest) ≡ with_each (given ++ answer ∷ []) rest
+with_each-more given answer rest = ap (λ (each : List (List ℕ)). record { each = each; stops = rest.stops }) (sym (append_assoc given (answer ∷ []) rest.each))
+
+-- nothing more is given
+pub with_each-end : (given : List (List ℕ)) (stops : Option (ℕ × ℕ)) → with_each given (record { each = []; stops = stops }) ≡ record { each = given; stops = stops }
+with_each-end given stops = ap (λ (each : List (List ℕ)). record { each = each; stops = stops }) (append-nil given)
+
+-- the answers joined are those of the text
+pub answers_are : (lines : List Line) → answers_of lines ≡ joined (listed_of lines)
+unfolding answers_of
+answers_are lines = refl

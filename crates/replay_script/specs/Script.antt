@@ -1,6 +1,9 @@
 -- A script and its answers.
 use Rattle.std.specs.Prelude.{◌≡◌, ℕ, ◌+◌, Bool, true, IsTrue, List, [], ◌∷◌, ◌++◌, length, None, Some, ◌&&◌, ◌==◌, false, codes, nat_le, if◌then◌else◌}
+use Rattle.std.specs.List.{concat}
 use Rattle.std.specs.Option.{option_and_then, option_map_or}
+use Rattle.answer_summary.specs.Summary.{rows_of}
+use Rattle.answer_summary.specs.declared.summary.Row.{Row}
 use Rattle.std.specs.declared.option.Option.{Option}
 use Rattle.cdni_base.specs.Limits.{Bounds, default_limits}
 use Rattle.script_line.specs.Answer.{answer_line, refused_line}
@@ -55,24 +58,37 @@ answer_of past (Sets limits) = []
 answer_of past (Calls scripted) = answer_line (reply_to past.made past.entries (entry_of scripted)) scripted.1.note
 answer_of past (Refuses fault) = refused_line fault
 
--- the answers of a script: their text, and the number and place of the first line that is none, counted from 1 and 0
+-- the answers of a script, one after the other, and the number and place of the first line that is none, counted from 1
+-- and 0
+pub record Listed : Type 0 where
+  pub each : List (List ℕ)
+  pub stops : Option (ℕ × ℕ)
+
+abbrev pub with_answer : List ℕ → Listed → Listed
+with_answer answer rest = record { each = answer ∷ rest.each; stops = rest.stops }
+
+-- the answers of the lines that follow, of which the first has this number and begins at this place
+unfoldable pub listed_from : ℕ → ℕ → Past → List Line → Listed
+listed_from number at past [] = record { each = []; stops = None }
+listed_from number at past (line ∷ lines) = option_map_or
+    (λ said. with_answer (answer_of past said) (listed_from (number + 1) (at + (length line.body + 1)) (grown past said)
+    lines)) (next_said (number == 1) at line) (record { each = []; stops = Some (number, at) })
+
+-- those of all lines, under the standard limits where the first line sets none
+unfoldable pub listed_of : List Line → Listed
+listed_of lines = listed_from 1 0 (made_with default_limits) lines
+
+-- the answers of a script as one text, and the number and place of the first line that is none
 pub record Answered : Type 0 where
   pub text : List ℕ
   pub stops : Option (ℕ × ℕ)
 
-abbrev pub with_text : List ℕ → Answered → Answered
-with_text text rest = record { text = text ++ rest.text; stops = rest.stops }
+-- the answers joined
+abbrev pub joined : Listed → Answered
+joined listed = record { text = concat listed.each; stops = listed.stops }
 
--- the answers of the lines that follow, of which the first has this number and begins at this place
-unfoldable pub answers_from : ℕ → ℕ → Past → List Line → Answered
-answers_from number at past [] = record { text = []; stops = None }
-answers_from number at past (line ∷ lines) = option_map_or
-    (λ said. with_text (answer_of past said) (answers_from (number + 1) (at + (length line.body + 1)) (grown past said)
-    lines)) (next_said (number == 1) at line) (record { text = []; stops = Some (number, at) })
-
--- those of all lines, under the standard limits where the first line sets none
 unfoldable pub answers_of : List Line → Answered
-answers_of lines = answers_from 1 0 (made_with default_limits) lines
+answers_of lines = joined (listed_of lines)
 
 -- the answers of a whole script
 abbrev pub answers : List ℕ → Answered
@@ -81,6 +97,10 @@ answers script = answers_of (lines_of script)
 -- the answers of the lines that were read whole, where these bytes were read
 abbrev pub answers_read : List ℕ → Answered
 answers_read bytes = answers_of (whole_lines bytes)
+
+-- the summary of the answers of a whole script
+unfoldable pub summary_rows : List ℕ → List Row
+summary_rows script = rows_of (listed_of (lines_of script)).each
 
 -- ---- one line
 

@@ -1,18 +1,13 @@
 //! The answers of a whole script.
 
-ghost use Rattle.std.specs.Prelude.{◌≡◌, ◌≢◌, ◌+◌, ◌≤◌, []};
-ghost use Rattle.cdni_base.specs.Limits.{default_limits};
+ghost use Rattle.std.specs.Prelude.{◌≡◌, ◌≢◌, ◌≤◌, []};
 ghost use Rattle.edge_base.specs.Causes.{Rose};
 ghost use Rattle.replay_script.specs.Replay.{Ends, Reads};
-ghost use Rattle.node_core.specs.Node.{Stands};
-ghost use Rattle.replay_script.specs.Script.{made_with};
+ghost use Rattle.replay_script.specs.Summary.{Summarizes, ReadsSummed};
 
-use crate::ahead::LineRead;
-use crate::lines::Lines;
-use crate::step::{Stepped, answer_one, scripted_node};
-use cdni_base::Limits;
+use crate::reading::Reading;
+use answer_summary::Summary;
 use edge_base::{Sink, Source, write_counted};
-use node_core::Node;
 use std::alloc::Global;
 
 /// How a replay ended.
@@ -45,60 +40,39 @@ pub fn replay<S: Source, K: Sink>(alloc: Global, input: &mut S, output: &mut K) 
     ensures write { result ≡ ReplayEnd.WriteFault → Rose (K.faults output.old) (K.faults output.new) }
     ensures write_well { result ≢ ReplayEnd.WriteFault → K.faults output.new ≡ K.faults output.old }
 {
-    let Ok(mut lines) = Lines::new(alloc) else {
+    let Ok(mut reading) = Reading::new(alloc) else {
         return ReplayEnd::Memory;
     };
-    let Ok(mut node) = scripted_node(alloc, &Limits::standard()) else {
-        return ReplayEnd::Memory;
-    };
-    answer_lines(alloc, &mut lines, &mut node, input, output)
+    'answers: loop {
+        if let Err(end) = reading.next(alloc, input) {
+            return end;
+        }
+        if write_counted(output, reading.answer()).fault {
+            return ReplayEnd::WriteFault;
+        }
+    }
 }
 
-// the same with nothing read ahead, and a node that stands for no call under the standard limits
-fn answer_lines<S: Source, K: Sink>(
-    alloc: Global,
-    lines: &mut Lines,
-    node: &mut Node,
-    input: &mut S,
-    output: &mut K,
-) -> ReplayEnd
-    ensures ends { lines.old.ahead ≡ [] → Stands node.old (made_with default_limits).made []
-        → Ends (S.left input.old) (S.left input.new) (K.held output.old) (K.held output.new) result }
-    ensures reads { lines.old.ahead ≡ [] → Stands node.old (made_with default_limits).made []
-        → Reads (S.left input.old) (S.left input.new) (K.held output.old) (K.held output.new) result }
+/// Reads a script from `input` and counts its answers in `summary`, in place of writing them. It always returns, and ends
+/// as `replay` does, but never with a fault of an output. Where it is `Done` the summary is that of the script's answers.
+pub fn summarize<S: Source>(alloc: Global, input: &mut S, summary: &mut Summary) -> ReplayEnd
+    requires { summary.old ≡ [] }
+    ensures ends { Summarizes (S.left input.old) (S.left input.new) summary.new result }
+    ensures reads { ReadsSummed (S.left input.old) (S.left input.new) result }
     ensures read_later { S.faults input.old ≤ S.faults input.new }
     ensures read { result ≡ ReplayEnd.ReadFault → Rose (S.faults input.old) (S.faults input.new) }
     ensures read_well { result ≢ ReplayEnd.ReadFault → S.faults input.new ≡ S.faults input.old }
-    ensures write_later { K.faults output.old ≤ K.faults output.new }
-    ensures write { result ≡ ReplayEnd.WriteFault → Rose (K.faults output.old) (K.faults output.new) }
-    ensures write_well { result ≢ ReplayEnd.WriteFault → K.faults output.new ≡ K.faults output.old }
 {
-    let mut answer = Vec::new(alloc);
-    let mut number: u64 = 1;
-    let mut at: u64 = 0;
-    'lines: loop {
-        match lines.next_line(input) {
-            LineRead::Line => {}
-            LineRead::End => {
-                if lines.line().is_empty() {
-                    return ReplayEnd::Done;
-                }
-                return ReplayEnd::NotALine { line: number, at };
-            }
-            LineRead::TooLong => return ReplayEnd::NotALine { line: number, at },
-            LineRead::Failed => return ReplayEnd::ReadFault,
-            LineRead::Memory => return ReplayEnd::Memory,
+    let Ok(mut reading) = Reading::new(alloc) else {
+        return ReplayEnd::Memory;
+    };
+    'answers: loop {
+        if let Err(end) = reading.next(alloc, input) {
+            return end;
         }
-        let line = lines.line();
-        match answer_one(alloc, node, number == 1, at, line, &mut answer) {
-            Stepped::Answered => {}
-            Stepped::NotALine => return ReplayEnd::NotALine { line: number, at },
-            Stepped::Memory => return ReplayEnd::Memory,
+        match summary.count(alloc, reading.answer()) {
+            Ok(()) => {}
+            Err(_) => return ReplayEnd::Memory,
         }
-        if write_counted(output, &answer).fault {
-            return ReplayEnd::WriteFault;
-        }
-        number += 1;
-        at += line.len() as u64 + 1;
     }
 }

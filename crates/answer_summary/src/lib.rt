@@ -1,0 +1,10 @@
+//! How many answers of a script begin with each word.
+#![tactic(auto)]
+
+mod law;
+mod summary;
+#[cfg(test)]
+mod tests;
+
+pub use law::a_summary_has_each_word_once;
+pub use summary::{Row, Summary};

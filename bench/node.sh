@@ -1,8 +1,9 @@
 #!/usr/bin/env bash
 # Instructions per line of `cdnid replay`, counted under callgrind, for each kind of call but the cut and the reading of a log
 # file, in a node with one open delivery and no row, and in one with 25,000 open deliveries and 25,000 rows that no log
-# file has: none may take more than 1.2 times as many in the second. And the instructions of a cut of 100,000 rows, beside those
-# that SHA-256 takes of them in the same run: at most 1.3 times as many.
+# file has: none may take more than 1.2 times as many in the second. The same for the ends of deliveries, in their order, in the
+# reverse one and in a mixed one, with 2,000 and with 50,000 of them open, of which the oldest stays open. And the instructions
+# of a cut of 100,000 rows, beside those that SHA-256 takes of them in the same run: at most 1.3 times as many.
 # It ends with status 1 where a figure is past what is asked for.
 # Usage: bench/node.sh   (needs valgrind; builds the program by `rt run` where it is not built; takes some ten minutes)
 set -eu
@@ -39,6 +40,30 @@ calls() {
   done
 }
 
+# The ends of so many of the open deliveries, but for the first. Arguments: the order, how many, and how many are open.
+ends() {
+  for ((i = 1; i <= $2; i++)); do
+    case $1 in
+      order) number=$((i + 1)) ;;
+      reverse) number=$(($3 + 1 - i)) ;;
+      mixed) number=$((i * 7919 % ($3 - 1) + 2)) ;;
+    esac
+    echo "0 3000 finish $number 404 200 8"
+  done
+}
+
+# The instructions of one end, as the slope between 500 and 1,500. Arguments: the order, and how many are open.
+end() {
+  local few many
+  filled "$2" 0 >"$room/base"
+  { cat "$room/base"; ends "$1" 500 "$2"; } >"$room/few"
+  { cat "$room/base"; ends "$1" 1500 "$2"; } >"$room/many"
+  few=$(replay_instructions "$room/few")
+  many=$(replay_instructions "$room/many")
+  [[ $(grep -c '^logged' "$room/answers") == 1500 ]] || { tail -n 3 "$room/answers" >&2; exit 1; }
+  echo $(((many - few) / 1000))
+}
+
 # The instructions of one step of a kind, as the slope between 500 and 1,500. Arguments: the kind, deliveries, rows.
 step() {
   local few many
@@ -56,6 +81,13 @@ for kind in refreshes denials deliveries records lists; do
   full=$(step "$kind" 25000 25000)
   echo "$kind: $empty instructions a step with one open delivery, $full with 25,000 and 25,000 rows"
   within "a hundred times the growth of $kind" $((full * 100 / empty)) 120
+done
+
+for order in order reverse mixed; do
+  few=$(end "$order" 2000)
+  many=$(end "$order" 50000)
+  echo "an end, $order: $few instructions with 2,000 open deliveries, $many with 50,000, the oldest of which stays open"
+  within "a hundred times the growth of an end" $((many * 100 / few)) 120
 done
 
 filled 0 99999 >"$room/rows"

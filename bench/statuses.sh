@@ -25,9 +25,14 @@ printf '0 0 refresh\n0 0 refreshes\n' >"$room/script"
 ends 0 '' stdin "$room/answers" replay
 ends 1 'line 2 at 12: not a script line' "$room/script" "$room/answers" replay
 ends 2 "$usage" stdin "$room/answers"
-ends 2 "$usage" stdin "$room/answers" replay --summary
+ends 0 '' stdin "$room/answers" replay --summary
+ends 0 '' stdin "$room/answers" generate 1 0
+ends 1 'line 2 at 12: not a script line' "$room/script" "$room/answers" replay --summary
+ends 2 "$usage" stdin "$room/answers" generate 0 0
 ends 2 "$usage" stdin "$room/answers" $'\xff'
 ends 3 'read fault' / "$room/answers" replay
 ends 4 'write fault' stdin /dev/full replay
+ends 4 'write fault' stdin /dev/full replay --summary
+ends 4 'write fault' stdin /dev/full generate 1 0
 [[ $wrong == 0 ]] && echo "all endings have their status and note"
 exit "$wrong"

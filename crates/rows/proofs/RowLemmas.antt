@@ -1,12 +1,12 @@
 -- What the items of a row are after each call on its places.
-use Rattle.std.proofs.Common.{◌≡◌, ℕ, zero, suc, ◌+◌, ◌-◌, ◌<◌, ◌≤◌, ◌⊎◌, inl, inr, Bool, true, false, cond, not, true≢false, List, [], ◌∷◌, ◌++◌, Option, None, Some, is_some, map, length, get_or, set, take, drop, slice_get, remove, min, filter, find, option_to_list, replicate, refl, sym, ap, subst, ◌∙◌, arith, length-set, length-append, append_assoc}
+use Rattle.std.proofs.Common.{◌≡◌, All, Contains, ℕ, zero, suc, ◌+◌, ◌-◌, ◌<◌, ◌≤◌, ◌⊎◌, inl, inr, Bool, true, false, cond, not, true≢false, List, [], ◌∷◌, ◌++◌, Option, None, Some, is_some, map, length, get_or, set, take, drop, slice_get, remove, min, filter, find, option_to_list, replicate, refl, sym, ap, subst, ◌∙◌, arith, length-set, length-append, append_assoc}
 use Rattle.std.proofs.lemmas.List.{append-nil, get_or_at, set_at, set-append_left, take_at, drop_at, take_all, drop_all, drop_more, take-append-le, take_more, take-set-le, get_or_append_left, map_push, length_push, length-map, length-replicate, replicate_more}
-use Rattle.std.proofs.lemmas.List.Elements.{filter_map-append}
-use Rattle.std.proofs.lemmas.Option.{none-some, same_Some}
+use Rattle.std.proofs.lemmas.List.Elements.{filter_map-append, All-cons, All-contains_itself, All-head, All-nil, All-tail}
+use Rattle.std.proofs.lemmas.Option.{none-some, same_Some, slice_get_past}
 use Rattle.std.proofs.lemmas.Bool.{cases_lt}
 use Rattle.rows.specs.Cells.{present, AreApart, slid}
 use Rattle.rows.specs.Cells.{CellsSeen}
-use Rattle.rows.specs.Row.{RowSeen, moved, IsTakenOut, IsPlace, IsRow, IsSolid}
+use Rattle.rows.specs.Row.{RowSeen, ArePassed, moved, IsTakenOut, IsPlace, IsRow, IsSolid}
 
 zero_suc : (n : ℕ) → zero ≡ suc n → ⊥
 zero_suc n e = absurd (omega arith)
@@ -181,12 +181,11 @@ module _ {T : Type 0} where
       full_front = ap length taken_front ∙ length_front ∙ s.to_is ∙ sym (ap length all_done)
 
   -- the places from the front on
-  pub gone_more : (cells : List (Option T)) (p : ℕ) → p < length cells → present (take p cells) ≡ []
-      → is_some (get_or cells p None) ≡ false → present (take (p + 1) cells) ≡ []
-  gone_more cells p l gone h =
+  pub same_more : (cells : List (Option T)) (p : ℕ) → p < length cells → is_some (get_or cells p None) ≡ false
+      → present (take (p + 1) cells) ≡ present (take p cells)
+  same_more cells p l h =
       ap present (take_more cells p None l) ∙ present_append (take p cells) (get_or cells p None ∷ [])
-      ∙ ap (λ (xs : List T). xs ++ present (get_or cells p None ∷ [])) gone
-      ∙ ap (λ (c : Option T). present (c ∷ [])) (no_item (get_or cells p None) h)
+      ∙ ap (λ (c : Option T). present (take p cells) ++ present (c ∷ [])) (no_item (get_or cells p None) h) ∙ append-nil (present (take p cells))
 
   pub gone_set : (cells : List (Option T)) (f p : ℕ) → present (take f cells) ≡ [] → present (take f (set cells p None)) ≡ []
   gone_set [] f p h = h
@@ -320,9 +319,9 @@ module _ {T : Type 0} where
   length_slid cells p to None = refl
   length_slid cells p to (Some o) = length-set (set cells p None) to (Some o) ∙ length-set cells p None
 
-  -- a row with these items and so many reserved places
-  abbrev pub seen : List T → ℕ → RowSeen T
-  seen items spare = record { items = items; spare = spare }
+  -- a row with these items and so many reserved places, of which a walk has passed so many
+  abbrev pub seen : List T → ℕ → ℕ → RowSeen T
+  seen items spare passed = record { items = items; spare = spare; passed = passed }
 
   pub row_roomed : (old new : CellsSeen T) (count front spare solid f less : ℕ) → IsRow old count front spare solid
       → present new.cells ≡ present old.cells → present (take f new.cells) ≡ [] → f ≤ length new.cells → new.spare ≡ old.spare
@@ -470,3 +469,99 @@ module _ {T : Type 0} where
 
   pub count_all : (cells : List (Option T)) (p : ℕ) → length cells ≤ p → length (present (take p cells)) ≡ length (present cells)
   count_all cells p l = ap (λ (xs : List (Option T)). length (present xs)) (take_all p cells l)
+
+  -- ---- what a walk has passed
+
+  -- the items before its place are the first of all
+  pub take_present : (cells : List (Option T)) (w : ℕ) → take (length (present (take w cells))) (present cells) ≡ present (take w cells)
+  take_present [] zero = refl
+  take_present [] (suc w) = refl
+  take_present (c ∷ cells) zero = refl
+  take_present (None ∷ cells) (suc w) = take_present cells w
+  take_present (Some x ∷ cells) (suc w) = ap (λ (xs : List T). x ∷ xs) (take_present cells w)
+
+  all_set : (P : T → Type 0) (cells : List (Option T)) (w p : ℕ) → All P (present (take w cells)) → All P (present (take w (set cells p None)))
+  all_set P [] w p all = all
+  all_set P (c ∷ cells) zero zero all = all
+  all_set P (c ∷ cells) zero (suc p) all = all
+  all_set P (None ∷ cells) (suc w) zero all = all
+  all_set P (Some x ∷ cells) (suc w) zero all = All-tail P x (present (take w cells)) all
+  all_set P (None ∷ cells) (suc w) (suc p) all = all_set P cells w p all
+  all_set P (Some x ∷ cells) (suc w) (suc p) all =
+      All-cons P x (present (take w (set cells p None))) (All-head P x (present (take w cells)) all)
+      (all_set P cells w p (All-tail P x (present (take w cells)) all))
+
+  -- what stands before the place of a walk stood before it
+  abbrev pub AreBefore : List (Option T) → ℕ → List (Option T) → ℕ → Type 0
+  AreBefore old w new v = All (Contains (present (take w old))) (present (take v new))
+
+  pub before_same : (cells : List (Option T)) (w : ℕ) → AreBefore cells w cells w
+  before_same cells w = All-contains_itself (present (take w cells))
+
+  pub before_none : (old new : List (Option T)) (w : ℕ) → AreBefore old w new 0
+  before_none old new w = All-nil (Contains (present (take w old)))
+
+  pub before_set : (old mid : List (Option T)) (w v p : ℕ) → AreBefore old w mid v → AreBefore old w (set mid p None) v
+  before_set old mid w v p h = all_set (Contains (present (take w old))) mid v p h
+
+  pub before_push : (old mid : List (Option T)) (w v : ℕ) (c : Option T) → v ≤ length mid → AreBefore old w mid v → AreBefore old w (mid ++ c ∷ []) v
+  before_push old mid w v c l h =
+      subst (All (Contains (present (take w old)))) (ap present (sym (take-append-le v mid (c ∷ []) l))) h
+
+  -- as rows are seen
+  pub seen_before : (old new : List (Option T)) (w v s t : ℕ) → AreBefore old w new v
+      → ArePassed (seen (present old) s (length (present (take w old)))) (seen (present new) t (length (present (take v new))))
+  seen_before old new w v s t h =
+      subst (λ (xs : List T). All (Contains xs) (take (length (present (take v new))) (present new))) (sym (take_present old w))
+      (subst (All (Contains (present (take w old)))) (sym (take_present new v)) h)
+
+  pub passed_taken : (old new : List (Option T)) (w p s : ℕ) → new ≡ set old p None
+      → ArePassed (seen (present old) s (length (present (take w old)))) (seen (present new) s (length (present (take w new))))
+  passed_taken old new w p s is =
+      seen_before old new w w s s (subst (λ (xs : List (Option T)). AreBefore old w xs w) (sym is) (before_set old old w w p (before_same old w)))
+
+  pub passed_moved : (old mid new : List (Option T)) (w v p s : ℕ) (o : T) → AreBefore old w mid v → v ≤ length mid → new ≡ set mid p None ++ Some o ∷ []
+      → ArePassed (seen (present old) s (length (present (take w old)))) (seen (present new) s (length (present (take v new))))
+  passed_moved old mid new w v p s o before l is =
+      seen_before old new w v s s (subst (λ (xs : List (Option T)). AreBefore old w xs v) (sym is)
+      (before_push old (set mid p None) w v (Some o) (omega (arith, l, length-set mid p None)) (before_set old mid w v p before)))
+
+  pub passed_pushed : (old mid new : List (Option T)) (w v s t : ℕ) (o : T) → AreBefore old w mid v → v ≤ length mid → new ≡ mid ++ Some o ∷ []
+      → ArePassed (seen (present old) s (length (present (take w old)))) (seen (present new) t (length (present (take v new))))
+  passed_pushed old mid new w v s t o before l is =
+      seen_before old new w v s t (subst (λ (xs : List (Option T)). AreBefore old w xs v) (sym is) (before_push old mid w v (Some o) l before))
+
+  pub seen_same : (v : RowSeen T) → ArePassed v v
+  seen_same v = All-contains_itself (take v.passed v.items)
+
+  pub walk_taken : (old new : List (Option T)) (w p : ℕ) → w ≤ length old → new ≡ set old p None → w ≤ length new
+  walk_taken old new w p l is = omega (arith, l, ap length is, length-set old p None)
+
+  pub walk_moved : (mid new : List (Option T)) (v p : ℕ) (o : T) → v ≤ length mid → new ≡ set mid p None ++ Some o ∷ [] → v ≤ length new
+  walk_moved mid new v p o l is = omega (arith, l, ap length is, length_push (set mid p None) (Some o), length-set mid p None)
+
+  pub walk_pushed : (mid new : List (Option T)) (v : ℕ) (o : T) → v ≤ length mid → new ≡ mid ++ Some o ∷ [] → v ≤ length new
+  walk_pushed mid new v o l is = omega (arith, l, ap length is, length_push mid (Some o))
+
+  -- the item at the place that a walk comes to
+  pub next_placed : (cells : List (Option T)) (w p : ℕ) → present (take p cells) ≡ present (take w cells) → p ≤ length cells
+      → (p < length cells → is_some (get_or cells p None) ≡ true) → length (present (take w cells)) < length (present cells)
+      → IsPlace cells (length (present (take w cells))) p
+  next_placed cells w p same within there l =
+      let inside : p < length cells = elim (cases_lt p (length cells)) [
+        | inl m ↦ m
+        | inr m ↦ absurd (omega (arith, l, count_all cells p m, ap length same))
+      ] in
+      record { before = ap length same; within = inside; there = there inside }
+
+  pub none_next : (cells : List (Option T)) (w p : ℕ) → present (take p cells) ≡ present (take w cells) → length cells ≤ p
+      → slice_get (present cells) (length (present (take w cells))) ≡ None
+  none_next cells w p same l =
+      slice_get_past (present cells) (length (present (take w cells))) (omega (arith, ap length same, count_all cells p l))
+
+  -- what stands before a place stays when its item is taken out
+  pub taken_before : (cells : List (Option T)) (p : ℕ) → present (take p (set cells p None)) ≡ present (take p cells)
+  taken_before [] p = refl
+  taken_before (c ∷ cells) zero = refl
+  taken_before (None ∷ cells) (suc p) = taken_before cells p
+  taken_before (Some x ∷ cells) (suc p) = ap (λ (xs : List T). x ∷ xs) (taken_before cells p)

@@ -1,14 +1,20 @@
 -- What a row of items is seen as.
-use Rattle.std.specs.Prelude.{◌≡◌, ℕ, ◌+◌, ◌*◌, ◌<◌, ◌≤◌, Bool, true, not, List, [], ◌∷◌, ◌++◌, None, Some, is_some, length, get_or, take, filter, find, option_to_list}
+use Rattle.std.specs.Prelude.{◌≡◌, ℕ, All, Contains, ◌+◌, ◌*◌, ◌<◌, ◌≤◌, Bool, true, not, List, [], ◌∷◌, ◌++◌, None, Some, is_some, length, get_or, take, filter, find, option_to_list}
 use Rattle.std.specs.declared.option.Option.{Option}
 use Rattle.rows.specs.Cells.{CellsSeen, present}
 
--- the items, in order, and how many more can be pushed without memory
+-- the items, in order, how many more can be pushed without memory, and how many of them, from the first on, a walk has
+-- passed
 pub record RowSeen (T : Type 0) : Type 0 where
   pub items : List T
   pub spare : ℕ
+  pub passed : ℕ
 
 module _ {T : Type 0} where
+  -- a walk had passed all that it has passed now
+  abbrev pub ArePassed : RowSeen T → RowSeen T → Type 0
+  ArePassed old new = All (Contains (take old.passed old.items)) (take new.passed new.items)
+
   -- the item that passes the test moved to the end
   abbrev pub moved : (T → Bool) → List T → List T
   moved test items = filter (λ item. not (test item)) items ++ option_to_list (find test items)

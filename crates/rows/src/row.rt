@@ -2,7 +2,8 @@
 
 ghost use Rattle.std.specs.Prelude.{◌≡◌, ◌+◌, ◌-◌, ◌*◌, ◌<◌, ◌≤◌, ◌^◌, [], ◌∷◌, ◌++◌, true, not, None, Some, is_some, max, length, get_or, set, take, remove, slice_get, option_map, option_to_list, find, filter, IfSome, IfNone, IsOk, OnOk, OnErr};
 ghost use Rattle.rows.specs.Cells.{present};
-ghost use Rattle.rows.specs.Row.{moved, IsPlace, IsSolid, IsTakenOut};
+ghost use Rattle.std.specs.Prelude.{All, Contains};
+ghost use Rattle.rows.specs.Row.{moved, ArePassed, IsPlace, IsSolid, IsTakenOut};
 
 use crate::cells::Cells;
 use indexmap::Equivalent;
@@ -10,9 +11,10 @@ use std::alloc::{AllocError, Global};
 use std::hash::Hash;
 use std::marker::Model;
 
-/// Items in order, no two with equal keys, and reserved places for more. It is seen as the list of items and the number
-/// of reserved places. Each call takes constant time on average, whatever the number of items: the log that keeps the
-/// order has at least twice as many places as there are items and reserved places, and is closed up when it is full.
+/// Items in order, no two with equal keys, and reserved places for more. It is seen as the list of items, the number of
+/// reserved places, and how many items a walk from the first on has passed. Each call takes constant time on average,
+/// whatever the number of items: the log that keeps the order has at least twice as many places as there are items and
+/// reserved places, and is closed up when it is full.
 #[derive(Drop)]
 pub struct Row<T: Eq + Hash + Drop> {
     cells: Cells<T>,
@@ -20,23 +22,29 @@ pub struct Row<T: Eq + Hash + Drop> {
     front: usize,
     spare: usize,
     solid: usize,
+    walk: usize,
 }
 
 impl<T: Eq + Hash + Drop> Model for Row<T> {
+    ghost use Rattle.std.specs.Prelude.{◌≤◌, length, take};
     ghost use Rattle.rows.specs.Cells.{present};
     ghost use Rattle.rows.specs.Row.{RowSeen, IsRow};
 
     ghost Value = { RowSeen T };
 
-    ghost view = { λ r. record { items = present r.cells.cells; spare = r.spare } };
+    ghost view = { λ r. record {
+      items = present r.cells.cells;
+      spare = r.spare;
+      passed = length (present (take r.walk r.cells.cells));
+    } };
 
-    ghost invariant = { λ r. IsRow r.cells r.count r.front r.spare r.solid };
+    ghost invariant = { λ r. IsRow r.cells r.count r.front r.spare r.solid × (r.walk ≤ length r.cells.cells) };
 }
 
 impl<T: Eq + Hash + Drop> Row<T> {
     /// The empty row, with no reserved place. It takes no memory.
     pub fn new(alloc: Global) -> Row<T>
-        ensures { result ≡ record { items = []; spare = 0 } }
+        ensures { result ≡ record { items = []; spare = 0; passed = 0 } }
     {
         Row {
             cells: Cells::new(alloc),
@@ -44,6 +52,7 @@ impl<T: Eq + Hash + Drop> Row<T> {
             front: 0,
             spare: 0,
             solid: 0,
+            walk: 0,
         }
     }
 
@@ -104,10 +113,15 @@ impl<T: Eq + Hash + Drop> Row<T> {
     pub fn push(&mut self, item: T)
         requires absent { find (T.eq item) self.old.items ≡ None }
         requires spare { 0 < self.old.spare }
-        ensures { self.new ≡ record { items = self.old.items ++ item ∷ []; spare = self.old.spare - 1 } }
+        ensures after { self.new ≡ record {
+          items = self.old.items ++ item ∷ [];
+          spare = self.old.spare - 1;
+          passed = self.new.passed;
+        } }
+        ensures passed { ArePassed self.old self.new }
     {
         self.solid = 0;
-        make_room(&mut self.cells, &mut self.front);
+        make_room(&mut self.cells, &mut self.front, &mut self.walk);
         self.cells.push(item);
         self.count += 1;
         self.spare -= 1;
@@ -116,7 +130,11 @@ impl<T: Eq + Hash + Drop> Row<T> {
     /// Takes out the item that the query stands for. It takes no memory.
     pub fn take<Q: Equivalent<T>>(&mut self, query: Q) -> Option<T>
         ensures found { result ≡ find (Q.equivalent query) self.old.items }
-        ensures after { self.new ≡ record self.old { items = filter (λ o. not (Q.equivalent query o)) self.old.items } }
+        ensures after { self.new ≡ record self.old {
+          items = filter (λ o. not (Q.equivalent query o)) self.old.items;
+          passed = self.new.passed;
+        } }
+        ensures passed { ArePassed self.old self.new }
         ensures one { IsTakenOut result self.old.items self.new.items }
     {
         let Some(p) = self.cells.place_of(query) else {
@@ -131,12 +149,16 @@ impl<T: Eq + Hash + Drop> Row<T> {
 
     /// Moves the item that the query stands for to the end. It takes no memory.
     pub fn touch<Q: Equivalent<T>>(&mut self, query: Q)
-        ensures after { self.new ≡ record self.old { items = moved (Q.equivalent query) self.old.items } }
+        ensures after { self.new ≡ record self.old {
+          items = moved (Q.equivalent query) self.old.items;
+          passed = self.new.passed;
+        } }
+        ensures passed { ArePassed self.old self.new }
         ensures one { IsTakenOut (find (Q.equivalent query) self.old.items) self.old.items
             (filter (λ o. not (Q.equivalent query o)) self.old.items) }
     {
         self.solid = 0;
-        make_room(&mut self.cells, &mut self.front);
+        make_room(&mut self.cells, &mut self.front, &mut self.walk);
         let Some(p) = self.cells.place_of(query) else {
             return;
         };
@@ -155,12 +177,14 @@ impl<T: Eq + Hash + Drop> Row<T> {
         self.cells.get(p)
     }
 
-    /// Takes out the first item. It takes no memory.
+    /// Takes out the first item, and a walk begins anew. It takes no memory.
     pub fn take_first(&mut self) -> Option<T>
         ensures taken { self.old.items ≡ option_to_list result ++ self.new.items }
         ensures none { IfNone result (self.old.items ≡ []) }
         ensures spare { self.new.spare ≡ self.old.spare }
+        ensures passed { self.new.passed ≡ 0 }
     {
+        self.walk = 0;
         let p = first_place(&self.cells, self.front);
         if p == self.cells.len() {
             return None;
@@ -174,11 +198,12 @@ impl<T: Eq + Hash + Drop> Row<T> {
 
     /// Takes the gaps away that items which are taken out or moved leave between the others, so that `at` and `take_out`
     /// take constant time until an item is pushed, touched or found and taken: `at` at the indexes up to the least at
-    /// which one was taken out since, and `take_out` below it.
+    /// which one was taken out since, and `take_out` below it. A walk begins anew.
     pub fn close_up(&mut self)
-        ensures { self.new ≡ self.old }
+        ensures { self.new ≡ record self.old { passed = 0 } }
     {
         squeeze(&mut self.cells);
+        self.walk = 0;
         self.front = 0;
         self.solid = self.count;
     }
@@ -195,13 +220,14 @@ impl<T: Eq + Hash + Drop> Row<T> {
         }
     }
 
-    /// Takes out the item at an index; the others keep their order. It takes no memory, and constant time as `close_up`
-    /// says, and else goes through the places.
+    /// Takes out the item at an index; the others keep their order, and a walk begins anew. It takes no memory, and
+    /// constant time as `close_up` says, and else goes through the places.
     pub fn take_out(&mut self, i: usize) -> T
         requires { i < length self.old.items }
         ensures out { slice_get self.old.items i ≡ Some result }
-        ensures after { self.new ≡ record self.old { items = remove self.old.items i } }
+        ensures after { self.new ≡ record self.old { items = remove self.old.items i; passed = 0 } }
     {
+        self.walk = 0;
         let p = place_of_index(&self.cells, self.solid, i);
         let taken = self.cells.take(p);
         self.count -= 1;
@@ -212,6 +238,51 @@ impl<T: Eq + Hash + Drop> Row<T> {
             None => unreachable!(),
         }
     }
+
+    /// The item that a walk comes to next.
+    pub fn next(&self) -> Option<&T>
+        ensures { option_map (λ o. o.now) result ≡ slice_get self.now.items self.now.passed }
+    {
+        let place = next_place(&self.cells, self.walk);
+        if place == self.cells.len() {
+            return None;
+        }
+        self.cells.get(place)
+    }
+
+    /// A walk passes the next item.
+    pub fn pass(&mut self)
+        requires { self.old.passed < length self.old.items }
+        ensures { self.new ≡ record self.old { passed = self.old.passed + 1 } }
+    {
+        let p = next_place(&self.cells, self.walk);
+        self.walk = next_place(&self.cells, p + 1);
+    }
+
+    /// Takes out the item that a walk comes to next; the others keep their order. It takes no memory.
+    pub fn take_next(&mut self) -> T
+        requires { self.old.passed < length self.old.items }
+        ensures out { slice_get self.old.items self.old.passed ≡ Some result }
+        ensures after { self.new ≡ record self.old { items = remove self.old.items self.old.passed } }
+    {
+        let p = next_place(&self.cells, self.walk);
+        let taken = self.cells.take(p);
+        self.count -= 1;
+        self.solid = 0;
+        self.walk = next_place(&self.cells, p);
+        self.front = first_place(&self.cells, self.front);
+        match taken {
+            Some(item) => item,
+            None => unreachable!(),
+        }
+    }
+
+    /// A walk begins anew, at the first item.
+    pub fn walk_anew(&mut self)
+        ensures { self.new ≡ record self.old { passed = 0 } }
+    {
+        self.walk = 0;
+    }
 }
 
 // twice as many places as there are items and reserved places
@@ -221,11 +292,22 @@ fn places_for(items: usize, spare: usize) -> Option<usize>
     items.checked_add(spare)?.checked_mul(2)
 }
 
-// the first place from here on that has an item, or the number of places
+// the first place that has an item, where none before this one has, or the number of places
 fn first_place<T: Eq + Hash + Drop>(cells: &Cells<T>, from: usize) -> usize
     requires gone { present (take from cells.now.cells) ≡ [] }
     requires within { from ≤ length cells.now.cells }
     ensures gone { present (take result cells.now.cells) ≡ [] }
+    ensures within { result ≤ length cells.now.cells }
+    ensures there { result < length cells.now.cells → is_some (get_or cells.now.cells result None) ≡ true }
+{
+    next_place(cells, from)
+}
+
+// the first place from here on that has an item, or the number of places
+fn next_place<T: Eq + Hash + Drop>(cells: &Cells<T>, from: usize) -> usize
+    requires { from ≤ length cells.now.cells }
+    ensures same { present (take result cells.now.cells) ≡ present (take from cells.now.cells) }
+    ensures small { length cells.now.cells < 2 ^ 64 }
     ensures within { result ≤ length cells.now.cells }
     ensures there { result < length cells.now.cells → is_some (get_or cells.now.cells result None) ≡ true }
 {
@@ -266,13 +348,16 @@ fn place_by_count<T: Eq + Hash + Drop>(cells: &Cells<T>, i: usize) -> usize
     unreachable!()
 }
 
-// closes the log up where there is no room for a place
-fn make_room<T: Eq + Hash + Drop>(cells: &mut Cells<T>, front: &mut usize)
+// closes the log up where there is no room for a place, and a walk begins anew then
+fn make_room<T: Eq + Hash + Drop>(cells: &mut Cells<T>, front: &mut usize, walk: &mut usize)
     requires gone { present (take front.old cells.old.cells) ≡ [] }
     requires within { front.old ≤ length cells.old.cells }
+    requires walk { walk.old ≤ length cells.old.cells }
     ensures items { present cells.new.cells ≡ present cells.old.cells }
     ensures gone { present (take front.new cells.new.cells) ≡ [] }
     ensures within { front.new ≤ length cells.new.cells }
+    ensures walk { walk.new ≤ length cells.new.cells }
+    ensures passed { All (Contains (present (take walk.old cells.old.cells))) (present (take walk.new cells.new.cells)) }
     ensures spare { cells.new.spare ≡ cells.old.spare }
     ensures total { cells.new.room + length cells.new.cells ≡ cells.old.room + length cells.old.cells }
     ensures small { cells.new.room + length cells.new.cells < 2 ^ 64 }
@@ -283,6 +368,7 @@ fn make_room<T: Eq + Hash + Drop>(cells: &mut Cells<T>, front: &mut usize)
     }
     squeeze(cells);
     *front = 0;
+    *walk = 0;
 }
 
 // moves all items to the front, and takes the gaps away

@@ -181,3 +181,54 @@ fn ten_thousand_calls_are_those_of_a_list(rt: HostRuntime) -> Result<(), Fail> {
     assert_eq!(rt; row.len(), 0);
     Ok(())
 }
+
+#[test]
+fn a_walk_comes_to_all_items(rt: HostRuntime) -> Result<(), Fail> {
+    let mut row = Row::new(rt.alloc());
+    row.reserve(rt.alloc(), 4)?;
+    for number in 0..4u64 {
+        row.push(number);
+    }
+    row.pass();
+    row.pass();
+    row.touch(&0);
+    assert_eq!(rt; row.next().copied(), Some(2));
+    row.take(&1);
+    assert_eq!(rt; row.next().copied(), Some(2));
+    assert_eq!(rt; row.take_next(), 2);
+    assert_eq!(rt; row.next().copied(), Some(3));
+    row.pass();
+    assert_eq!(rt; row.next().copied(), Some(0));
+    row.walk_anew();
+    assert_eq!(rt; row.next().copied(), Some(3));
+    Ok(())
+}
+
+#[test]
+fn a_walk_ends_while_items_move(rt: HostRuntime) -> Result<(), Fail> {
+    let mut row = Row::new(rt.alloc());
+    row.reserve(rt.alloc(), 64)?;
+    for number in 0..64u64 {
+        row.push(number);
+    }
+    // half of the first items are taken out, and each of the others is moved behind the walk and met again
+    let mut random = 1u64;
+    let mut steps = 0;
+    while let Some(number) = row.next().copied() {
+        steps += 1;
+        if number % 2 == 1 {
+            row.take_next();
+        } else {
+            row.pass();
+        }
+        random = random
+            .wrapping_mul(6_364_136_223_846_793_005)
+            .wrapping_add(1_442_695_040_888_963_407);
+        if steps % 2 == 0 {
+            row.touch(&((random >> 33) % 64));
+        }
+        assert!(rt; steps < 1_000);
+    }
+    assert_eq!(rt; row.len(), 32);
+    Ok(())
+}

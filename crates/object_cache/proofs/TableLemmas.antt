@@ -1,18 +1,34 @@
 -- What the kept objects are after each call, and their lengths together.
-use Rattle.std.proofs.Common.{◌≡◌, ℕ, zero, suc, remove, slice_get, ◌+◌, ◌-◌, ◌<◌, ◌≤◌, ◌⊎◌, inl, inr, Bool, true, false, cond, not, nat_le, List, [], ◌∷◌, ◌++◌, Option, None, Some, filter, find, map, option_to_list, refl, sym, ap, ◌∙◌, subst, append_assoc, arith}
+use Rattle.std.proofs.Common.{◌≡◌, All, Contains, ℕ, zero, suc, remove, take, slice_get, ◌+◌, ◌-◌, ◌<◌, ◌≤◌, ◌⊎◌, inl, inr, Bool, true, false, cond, not, nat_le, List, [], ◌∷◌, ◌++◌, Option, None, Some, filter, find, map, option_to_list, refl, sym, ap, ◌∙◌, subst, append_assoc, arith}
 use Rattle.std.proofs.lemmas.List.Sums.{sum_by-append, sum_by-cons, sum_by_push, sum_by-remove}
 use Rattle.std.proofs.lemmas.Bool.{cases_lt, le-leb, leb-true, lt-leb, and_parts}
 use Rattle.std.proofs.lemmas.List.{append-nil}
+use Rattle.std.proofs.lemmas.List.Elements.{All-contains, All-contains_itself, All-weaker}
 use Rattle.std.proofs.lemmas.Option.{none-some, get_or_from_slice_get, slice_get_within}
 use Rattle.cdni_base.specs.Key.{KeyParts}
 use Rattle.cdni_base.specs.KeyEqualityLemmas.{key_decides}
-use Rattle.rows.specs.Row.{moved}
+use Rattle.rows.specs.Row.{ArePassed, RowSeen, moved}
 use Rattle.object_cache.specs.declared.object.Object.{Object}
 use Rattle.object_cache.specs.ObjectTable.{AreApart, Kept, evicted, filled, is_filled, is_of, kept_of, length_of, others, renewed, renewed_one, total}
 
 -- a table with these
-abbrev pub kept : ℕ → List Object → ℕ → Kept
-kept limit objects spare = record { limit = limit; objects = objects; spare = spare }
+abbrev pub kept : ℕ → List Object → ℕ → ℕ → Kept
+kept limit objects spare passed = record { limit = limit; objects = objects; spare = spare; passed = passed }
+
+-- what a walk has passed, where nothing moved
+pub passed_same : (a b : RowSeen Object) (n : ℕ) → b ≡ record a { spare = n } → ArePassed a b
+passed_same a b n is = subst (λ (v : RowSeen Object). ArePassed a v) (sym is) (All-contains_itself (take a.passed a.items))
+
+-- as a table is seen
+pub passed_seen : (now : Kept) (old new : RowSeen Object) (limit : ℕ) → kept limit old.items old.spare old.passed ≡ now → ArePassed old new
+    → All (Contains (take now.passed now.objects)) (take new.passed new.items)
+passed_seen now old new limit is h = subst (λ (v : Kept). All (Contains (take v.passed v.objects)) (take new.passed new.items)) is h
+
+-- what a walk has passed, after two calls
+pub passed_both : (a b c : RowSeen Object) → ArePassed a b → ArePassed b c → ArePassed a c
+passed_both a b c h g =
+    All-weaker (Contains (take b.passed b.items)) (Contains (take a.passed a.items))
+    (λ one there. All-contains (Contains (take a.passed a.items)) (take b.passed b.items) one h there) (take c.passed c.items) g
 
 -- by a test
 module _ (test : Object → Bool) where

@@ -1,15 +1,20 @@
 -- The objects that a node keeps of what its fetches brought, and which of them stay where there are too many bytes.
-use Rattle.std.specs.Prelude.{◌≡◌, ℕ, Bool, false, not, nat_lt, nat_le, ◌&&◌, if◌then◌else◌, List, [], ◌∷◌, ◌++◌, None, Some, length, filter, find, map, option_to_list, sum_by}
+use Rattle.std.specs.Prelude.{◌≡◌, ℕ, All, Contains, take, Bool, false, not, nat_lt, nat_le, ◌&&◌, if◌then◌else◌, List, [], ◌∷◌, ◌++◌, None, Some, length, filter, find, map, option_to_list, sum_by}
 use Rattle.std.specs.declared.option.Option.{Option}
 use Rattle.cdni_base.specs.Key.{KeyParts, same_key}
 use Rattle.object_cache.specs.declared.object.Object.{Object}
 
--- the most bytes that are kept, the objects, the least recently used first, and how many more can be filled in without
--- memory
+-- the most bytes that are kept, the objects, the least recently used first, how many more can be filled in without memory,
+-- and how many of them, from the first on, a walk has passed
 pub record Kept : Type 0 where
   pub limit : ℕ
   pub objects : List Object
   pub spare : ℕ
+  pub passed : ℕ
+
+-- a walk had passed all that it has passed now
+abbrev pub ArePassed : Kept → Kept → Type 0
+ArePassed old new = All (Contains (take old.passed old.objects)) (take new.passed new.objects)
 
 -- how long an object is
 abbrev pub length_of : Object → ℕ

@@ -2,8 +2,9 @@
 
 ghost use Rattle.std.specs.Prelude.{◌≡◌, ◌+◌, ◌-◌, ◌<◌, ◌≤◌, ◌^◌, [], ◌∷◌, ◌++◌, Ok, Some, OnOk, OnErr, length, remove, slice_get};
 ghost use Rattle.std.specs.Option.{option_map};
+ghost use Rattle.rows.specs.Row as rows;
 ghost use Rattle.rows.specs.Row.{moved};
-ghost use Rattle.object_cache.specs.ObjectTable.{AreApart, evicted, filled, is_filled, is_newer, is_of, kept_of, length_of, others, renewed, total};
+ghost use Rattle.object_cache.specs.ObjectTable.{AreApart, ArePassed, evicted, filled, is_filled, is_newer, is_of, kept_of, length_of, others, renewed, total};
 
 use crate::object::{Object, Wanted};
 use cdni_base::{Body, Key};
@@ -12,9 +13,9 @@ use std::alloc::{AllocError, Global};
 use std::marker::Model;
 
 /// The objects that are kept, the least recently used first. It is seen as the most bytes that they may have together,
-/// the list of them, and how many more can be filled in without memory. Each call takes constant time on average,
-/// whatever the number of objects, but for `close_up`, which goes through them all; of those that leave, each counts for
-/// itself.
+/// the list of them, how many more can be filled in without memory, and how many of them a walk from the first on has
+/// passed. Each call takes constant time on average, whatever the number of objects, but for `close_up`, which goes
+/// through them all; of those that leave, each counts for itself.
 #[derive(Drop)]
 pub struct ObjectTable {
     row: Row<Object>,
@@ -28,7 +29,12 @@ impl Model for ObjectTable {
 
     ghost Value = { Kept };
 
-    ghost view = { λ t. record { limit = t.limit; objects = t.row.items; spare = t.row.spare } };
+    ghost view = { λ t. record {
+      limit = t.limit;
+      objects = t.row.items;
+      spare = t.row.spare;
+      passed = t.row.passed;
+    } };
 
     ghost invariant = { λ t. (t.sum ≡ total t.row.items) × (t.sum ≤ t.limit) × AreApart [] t.row.items };
 }
@@ -36,7 +42,7 @@ impl Model for ObjectTable {
 impl ObjectTable {
     /// A table without objects that keeps at most `limit` bytes. It takes no memory, and does not fail.
     pub fn new(alloc: Global, limit: u64) -> Result<ObjectTable, AllocError>
-        ensures { result ≡ Ok (record { limit = limit; objects = []; spare = 0 }) }
+        ensures { result ≡ Ok (record { limit = limit; objects = []; spare = 0; passed = 0 }) }
     {
         Ok(ObjectTable {
             row: Row::new(alloc),
@@ -77,7 +83,11 @@ impl ObjectTable {
 
     /// Moves the object that is kept under the key to the end, as the most recently used. It takes no memory.
     pub fn touch(&mut self, key: &Key)
-        ensures after { self.new ≡ record self.old { objects = moved (is_of key.now) self.old.objects } }
+        ensures after { self.new ≡ record self.old {
+          objects = moved (is_of key.now) self.old.objects;
+          passed = self.new.passed;
+        } }
+        ensures passed { ArePassed self.old self.new }
         ensures apart { AreApart [] self.old.objects }
     {
         self.row.touch(Wanted { key });
@@ -89,7 +99,11 @@ impl ObjectTable {
     /// # Errors
     /// Want of memory. The table is then as before.
     pub fn renew(&mut self, alloc: Global, key: &Key, begun: u64) -> Result<(), AllocError>
-        ensures after { OnOk result (self.new ≡ record self.old { objects = renewed key.now begun self.old.objects }) }
+        ensures after { OnOk result (self.new ≡ record self.old {
+          objects = renewed key.now begun self.old.objects;
+          passed = self.new.passed;
+        }) }
+        ensures passed { ArePassed self.old self.new }
         ensures apart { AreApart [] self.old.objects }
         ensures refused { OnErr result (self.new ≡ self.old) }
     {
@@ -103,7 +117,11 @@ impl ObjectTable {
 
     /// Takes out the object that is kept under the key. It takes no memory.
     pub fn take(&mut self, key: &Key)
-        ensures after { self.new ≡ record self.old { objects = others key.now self.old.objects } }
+        ensures after { self.new ≡ record self.old {
+          objects = others key.now self.old.objects;
+          passed = self.new.passed;
+        } }
+        ensures passed { ArePassed self.old self.new }
         ensures apart { AreApart [] self.old.objects }
     {
         take_key(&mut self.row, &mut self.sum, key);
@@ -124,9 +142,9 @@ impl ObjectTable {
     }
 
     /// Closes up the places in which the objects are kept, so that `at` and `take_out` take constant time where objects
-    /// are taken out from the last to the first. It goes through all objects.
+    /// are taken out from the last to the first. It goes through all objects, and a walk begins anew.
     pub fn close_up(&mut self)
-        ensures { self.new ≡ self.old }
+        ensures { self.new ≡ record self.old { passed = 0 } }
     {
         self.row.close_up();
     }
@@ -139,16 +157,50 @@ impl ObjectTable {
         self.row.at(i)
     }
 
-    /// Takes out the object at an index, and answers it. The others keep their order, and as many can be filled in
-    /// without memory as before. It takes constant time where objects are taken out as `close_up` says.
+    /// Takes out the object at an index, and answers it. The others keep their order, as many can be filled in without
+    /// memory as before, and a walk begins anew. It takes constant time where objects are taken out as `close_up` says.
     pub fn take_out(&mut self, i: usize) -> Object
         requires { i < length self.old.objects }
         ensures out { slice_get self.old.objects i ≡ Some result }
-        ensures after { self.new ≡ record self.old { objects = remove self.old.objects i } }
+        ensures after { self.new ≡ record self.old { objects = remove self.old.objects i; passed = 0 } }
     {
         let object = self.row.take_out(i);
         self.sum -= body_length(&object.body);
         object
+    }
+
+    /// The object that a walk comes to next.
+    pub fn next(&self) -> Option<&Object>
+        ensures { option_map (λ o. o.now) result ≡ slice_get self.now.objects self.now.passed }
+    {
+        self.row.next()
+    }
+
+    /// A walk passes the next object.
+    pub fn pass(&mut self)
+        requires { self.old.passed < length self.old.objects }
+        ensures { self.new ≡ record self.old { passed = self.old.passed + 1 } }
+    {
+        self.row.pass();
+    }
+
+    /// Takes out the object that a walk comes to next, and answers it. The others keep their order, and as many can be
+    /// filled in without memory as before.
+    pub fn take_next(&mut self) -> Object
+        requires { self.old.passed < length self.old.objects }
+        ensures out { slice_get self.old.objects self.old.passed ≡ Some result }
+        ensures after { self.new ≡ record self.old { objects = remove self.old.objects self.old.passed } }
+    {
+        let object = self.row.take_next();
+        self.sum -= body_length(&object.body);
+        object
+    }
+
+    /// A walk begins anew, at the first object.
+    pub fn walk_anew(&mut self)
+        ensures { self.new ≡ record self.old { passed = 0 } }
+    {
+        self.row.walk_anew();
     }
 
     /// Keeps an object, where no kept object of its key has a greater fetch and its length is at most the limit. It
@@ -162,6 +214,7 @@ impl ObjectTable {
         ensures after { self.new ≡ record self.old {
           objects = filled self.old.limit self.old.objects object;
           spare = self.old.spare - 1;
+          passed = self.new.passed;
         } }
         ensures within { total self.new.objects ≤ self.new.limit }
     {
@@ -207,6 +260,7 @@ fn replace(row: &mut Row<Object>, sum: &mut u64, object: Object, most: u64)
     ensures row { row.new ≡ record {
       items = evicted most (others object.key row.old.items) ++ object ∷ [];
       spare = row.old.spare - 1;
+      passed = row.new.passed;
     } }
     ensures sum { sum.new ≡ total row.new.items }
     ensures within { sum.new ≤ most + length_of object }
@@ -220,7 +274,8 @@ fn replace(row: &mut Row<Object>, sum: &mut u64, object: Object, most: u64)
 // takes the key's object out
 fn take_key(row: &mut Row<Object>, sum: &mut u64, key: &Key)
     requires { sum.old ≡ total row.old.items }
-    ensures row { row.new ≡ record row.old { items = others key.now row.old.items } }
+    ensures row { row.new ≡ record row.old { items = others key.now row.old.items; passed = row.new.passed } }
+    ensures passed { rows.ArePassed row.old row.new }
     ensures sum { sum.new ≡ total row.new.items }
     ensures lower { sum.new ≤ sum.old }
 {
@@ -236,7 +291,9 @@ fn renew(row: &mut Row<Object>, key: &Key, begun: u64)
     ensures row { row.new ≡ record {
       items = renewed key.now begun row.old.items;
       spare = row.old.spare - 1;
+      passed = row.new.passed;
     } }
+    ensures passed { rows.ArePassed row.old row.new }
     ensures total { total row.new.items ≡ total row.old.items }
 {
     match row.take(Wanted { key }) {
@@ -255,7 +312,7 @@ fn renew(row: &mut Row<Object>, key: &Key, begun: u64)
 // lets the first objects leave until all have at most `most` bytes together
 fn evict(row: &mut Row<Object>, sum: &mut u64, most: u64)
     requires { sum.old ≡ total row.old.items }
-    ensures row { row.new ≡ record row.old { items = evicted most row.old.items } }
+    ensures row { row.new ≡ record row.old { items = evicted most row.old.items; passed = row.new.passed } }
     ensures sum { sum.new ≡ total row.new.items }
     ensures within { sum.new ≤ most }
 {

@@ -182,53 +182,59 @@ fn ten_thousand_calls_are_those_of_a_list(rt: HostRuntime) -> Result<(), Fail> {
     Ok(())
 }
 
-#[test]
-fn a_walk_comes_to_all_items(rt: HostRuntime) -> Result<(), Fail> {
-    let mut row = Row::new(rt.alloc());
-    row.reserve(rt.alloc(), 4)?;
-    for number in 0..4u64 {
-        row.push(number);
+// a row of the first numbers
+fn first_numbers(alloc: Global, n: u64) -> Result<Row<u64>, AllocError> {
+    let mut row = Row::new(alloc);
+    let mut list = Vec::new(alloc);
+    for number in 0..n {
+        add(alloc, &mut row, &mut list, number)?;
     }
+    Ok(row)
+}
+
+// passes the next item of a walk
+fn pass(row: &mut Row<u64>) -> Option<u64> {
+    let number = *row.next()?;
     row.pass();
-    row.pass();
+    Some(number)
+}
+
+// takes out the next item of a walk
+fn take_next(row: &mut Row<u64>) -> Option<u64> {
+    row.next()?;
+    Some(row.take_next())
+}
+
+#[test]
+fn a_walk_comes_to_the_items_in_their_order(rt: HostRuntime) -> Result<(), Fail> {
+    let mut row = first_numbers(rt.alloc(), 4)?;
+    assert_eq!(rt; pass(&mut row), Some(0));
+    assert_eq!(rt; pass(&mut row), Some(1));
     row.touch(&0);
     assert_eq!(rt; row.next().copied(), Some(2));
     row.take(&1);
-    assert_eq!(rt; row.next().copied(), Some(2));
-    assert_eq!(rt; row.take_next(), 2);
-    assert_eq!(rt; row.next().copied(), Some(3));
-    row.pass();
-    assert_eq!(rt; row.next().copied(), Some(0));
+    assert_eq!(rt; take_next(&mut row), Some(2));
+    assert_eq!(rt; pass(&mut row), Some(3));
+    assert_eq!(rt; pass(&mut row), Some(0));
+    assert!(rt; pass(&mut row).is_none());
     row.walk_anew();
-    assert_eq!(rt; row.next().copied(), Some(3));
+    assert_eq!(rt; take_next(&mut row), Some(3));
     Ok(())
 }
 
 #[test]
 fn a_walk_ends_while_items_move(rt: HostRuntime) -> Result<(), Fail> {
-    let mut row = Row::new(rt.alloc());
-    row.reserve(rt.alloc(), 64)?;
-    for number in 0..64u64 {
-        row.push(number);
-    }
-    // half of the first items are taken out, and each of the others is moved behind the walk and met again
-    let mut random = 1u64;
-    let mut steps = 0;
-    while let Some(number) = row.next().copied() {
-        steps += 1;
-        if number % 2 == 1 {
-            row.take_next();
-        } else {
-            row.pass();
+    let mut row = first_numbers(rt.alloc(), 64)?;
+    for step in 0..1_000u64 {
+        match row.next().copied() {
+            Some(number) if number % 2 == 1 => take_next(&mut row),
+            _ => pass(&mut row),
+        };
+        if step % 2 == 0 {
+            row.touch(&(step % 64));
         }
-        random = random
-            .wrapping_mul(6_364_136_223_846_793_005)
-            .wrapping_add(1_442_695_040_888_963_407);
-        if steps % 2 == 0 {
-            row.touch(&((random >> 33) % 64));
-        }
-        assert!(rt; steps < 1_000);
     }
+    assert!(rt; row.next().is_none());
     assert_eq!(rt; row.len(), 32);
     Ok(())
 }

@@ -3,3 +3,4 @@ pub mod ListLemmas
 pub mod OpenLemmas
 pub mod ShelfLemmas
 pub mod StaleLemmas
+pub mod TriedLemmas

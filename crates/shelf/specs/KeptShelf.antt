@@ -1,5 +1,5 @@
 -- What is kept of fetches, and the fetches that are open.
-use Rattle.std.specs.Prelude.{◌≡◌, ℕ, ◌+◌, ◌≤◌, max, min, nat_le, Bool, true, false, not, ◌||◌, ◌⊎◌, All, Contains, List, ◌∷◌, [], ◌++◌, filter, length, map, None, Some, is_some}
+use Rattle.std.specs.Prelude.{◌≡◌, ℕ, ◌+◌, ◌≤◌, max, min, nat_le, Bool, true, false, not, ◌||◌, ◌⊎◌, take, All, Contains, List, ◌∷◌, [], ◌++◌, filter, length, map, None, Some, is_some}
 use Rattle.std.specs.Option.{option_map}
 use Rattle.std.specs.declared.option.Option.{Option}
 use Rattle.epochs.specs.EpochsList.{Known, is_stale, past}
@@ -117,6 +117,10 @@ abbrev pub was_tried : ℕ → Option Object → Bool
 was_tried newest None = true
 was_tried newest (Some object) = nat_le newest object.begun
 
+-- of the starts that these have not all been tried with, those up to this one were, and hit none of them
+abbrev pub AreTried : List Start → ℕ → ℕ → List Object → Type 0
+AreTried starts noted aimed objects = All (λ object. is_gone starts noted object ≡ is_gone starts aimed object) objects
+
 -- the other objects are kept
 abbrev pub kept_in : List Start → ℕ → List Object → List Kept
 kept_in starts noted objects = map kept_object (filter (λ object. not (is_gone starts noted object)) objects)
@@ -156,13 +160,15 @@ least_needed newest noted [] flights = least_begun newest flights
 least_needed newest noted (object ∷ objects) flights = min (least_begun newest flights) noted
 
 -- Each open fetch has a place in the table. Their numbers rise up to the count, and the starts when they were opened do
--- not fall. A start is known only while an open fetch was opened before it, or objects have not been tried with it.
-pub record IsShelf (table : objects.Kept) (flights : List (Open Launched)) (fetched : ℕ) (known : Known) (noted : ℕ)
+-- not fall. A start is known only while an open fetch was opened before it, or objects have not been tried with it. A walk
+-- tries each object with the starts up to the one that it aims at.
+pub record IsShelf (table : objects.Kept) (flights : List (Open Launched)) (fetched : ℕ) (known : Known) (noted aimed : ℕ)
     : Type 0 where
   pub room : length flights ≤ table.spare
   pub numbered : AreUpTo fetched flights
   pub rising : AreRising 0 flights
   pub begun : AreBegun 0 known.newest flights
   pub up_to : AreUpToEpoch known.newest table.objects
-  pub swept : noted ≤ known.newest
+  pub aim : (noted ≤ aimed) × (aimed ≤ known.newest)
+  pub tried : AreTried known.starts noted aimed (take table.passed table.objects)
   pub settled : past (least_needed known.newest noted table.objects flights) known.starts ≡ known.starts

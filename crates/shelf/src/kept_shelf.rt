@@ -1,12 +1,12 @@
 //! What fetches brought, the fetches that are open, and the starts of triggers since.
 
-ghost use Rattle.std.specs.Prelude.{◌≡◌, ◌+◌, ◌^◌, ◌<◌, ◌≤◌, false, not, Ok, Some, [], ℕ, List, map, max, length, remove, slice_get, nat_le, ◌||◌, true, None, is_some, if◌then◌else◌, IfOk, IfNone, OnOk, OnErr, option_map};
+ghost use Rattle.std.specs.Prelude.{◌≡◌, ◌+◌, ◌^◌, ◌<◌, ◌≤◌, false, not, Ok, Some, [], ℕ, List, map, max, length, nat_le, ◌||◌, true, None, is_some, take, ◌-◌, IfOk, IfNone, OnOk, OnErr, option_map};
 ghost use Rattle.std.specs.List.{find};
 ghost use Rattle.epochs.specs.EpochsList.{past};
 ghost use Rattle.object_cache.specs.ObjectTable as objects;
 ghost use Rattle.history.specs.Kept.{kept_of, used, gained, total, with_gained};
 ghost use Rattle.shelf.specs.Open.{is_named, AreRising};
-ghost use Rattle.shelf.specs.KeptShelf.{kept_object, opened, end_reply, end_after, start_after, brought, content_of, is_gained, AreBegun, AreUpToEpoch, IsPartOf, IsPartOfOrKept, flight_of, is_gone, is_hit, kept_in, least_begun, least_needed, was_tried};
+ghost use Rattle.shelf.specs.KeptShelf.{kept_object, opened, end_reply, end_after, start_after, brought, content_of, is_gained, AreBegun, AreTried, AreUpToEpoch, IsPartOf, IsPartOfOrKept, flight_of, is_gone, is_hit, kept_in, least_begun, least_needed, was_tried};
 
 use crate::open::{Named, Open};
 use cdni_base::Key;
@@ -19,6 +19,9 @@ use std::alloc::{AllocError, Global};
 use std::marker::Model;
 use trigger_command::Selection;
 use upstream_gate::{Got, Outcome};
+
+// how often an object is tried with a start in one call, while some are to be tried
+const TRIALS: u64 = 16;
 
 /// An open fetch as it is seen: what it fetches, and whether a start has hit that since it was opened.
 #[derive(Drop)]
@@ -37,7 +40,8 @@ pub(crate) struct Launched {
 /// The kept objects, and the fetches that are open. It is seen as the most bytes that are kept, the kept objects, the
 /// least recently used first, the open fetches, in order, how many were opened, and how many triggers started. Each open
 /// fetch has a place for what it brings, so that its end takes no memory. A start goes through its own items alone: an
-/// object that it hits stays in the table until one is to be kept, and is no longer found.
+/// object that it hits stays in the table until one is to be kept, and is no longer found. A walk tries a few objects with
+/// the starts in each call that looks one up, so that few are left then.
 #[derive(Drop)]
 pub struct Shelf {
     table: ObjectTable,
@@ -45,6 +49,7 @@ pub struct Shelf {
     fetched: u64,
     epochs: Epochs,
     noted: u64,
+    aimed: u64,
 }
 
 impl Model for Shelf {
@@ -62,7 +67,7 @@ impl Model for Shelf {
       starts = s.epochs.known.newest;
     } };
 
-    ghost invariant = { λ s. IsShelf s.table s.flights.items s.fetched s.epochs.known s.noted };
+    ghost invariant = { λ s. IsShelf s.table s.flights.items s.fetched s.epochs.known s.noted s.aimed };
 }
 
 impl Shelf {
@@ -79,6 +84,7 @@ impl Shelf {
             fetched: 0,
             epochs: Epochs::new(alloc)?,
             noted: 0,
+            aimed: 0,
         })
     }
 
@@ -105,11 +111,30 @@ impl Shelf {
     }
 
     /// Opens a fetch for this pass under whose key nothing is kept, as `open` does. What starts have hit under that key
-    /// leaves, so that they are not tried on it again.
+    /// leaves, so that they are not tried on it again, and a few other objects are tried with the starts.
     ///
     /// # Errors
     /// Want of memory. Nothing is opened then, and nothing leaves.
     pub fn open_missed(
+        &mut self,
+        alloc: Global,
+        pass: u32,
+        fetching: Fetching,
+    ) -> Result<u64, AllocError>
+        requires few { self.old.fetched ≤ 2 ^ 62 }
+        requires none { kept_of fetching.key self.old.kept ≡ None }
+        ensures reply { IfOk result (λ fetch. fetch ≡ self.old.fetched + 1) }
+        ensures after { OnOk result (self.new ≡ record (opened self.old pass fetching) { held = self.new.held }) }
+        ensures held { IsPartOf self.new.held self.old.held }
+        ensures err { OnErr result (self.new ≡ self.old) }
+    {
+        let fetch = self.open_without(alloc, pass, fetching)?;
+        self.sweep_some();
+        Ok(fetch)
+    }
+
+    // the same, where no object is tried
+    fn open_without(
         &mut self,
         alloc: Global,
         pass: u32,
@@ -184,11 +209,26 @@ impl Shelf {
     }
 
     /// What is kept under the key was used: it goes to the end, and no start so far is tried on it again. Where all were
-    /// tried already, it takes no memory.
+    /// tried already, it takes no memory. A few other objects are tried with the starts.
     ///
     /// # Errors
     /// Want of memory. Nothing has changed then.
     pub fn renew(&mut self, alloc: Global, key: &Key) -> Result<(), AllocError>
+        requires { is_some (kept_of key.now self.old.kept) ≡ true }
+        ensures after { OnOk result (self.new ≡ record self.old {
+          kept = used key.now self.old.kept;
+          held = self.new.held;
+        }) }
+        ensures held { IsPartOf self.new.held self.old.held }
+        ensures err { OnErr result (self.new ≡ self.old) }
+    {
+        self.renew_one(alloc, key)?;
+        self.sweep_some();
+        Ok(())
+    }
+
+    // the same, where no other object is tried
+    fn renew_one(&mut self, alloc: Global, key: &Key) -> Result<(), AllocError>
         requires { is_some (kept_of key.now self.old.kept) ≡ true }
         ensures after { OnOk result (self.new ≡ record self.old {
           kept = used key.now self.old.kept;
@@ -223,12 +263,33 @@ impl Shelf {
         Ok(())
     }
 
+    // a few objects are tried with the starts since the last sweep; what they have hit leaves
+    fn sweep_some(&mut self)
+        ensures after { self.new ≡ record self.old { held = self.new.held } }
+        ensures held { IsPartOf self.new.held self.old.held }
+    {
+        if self.noted < self.epochs.newest() {
+            sweep_portion(
+                &mut self.table,
+                &self.epochs,
+                &mut self.noted,
+                &mut self.aimed,
+            );
+            settle(&mut self.epochs, &self.table, self.noted, &self.flights);
+        }
+    }
+
     /// What starts have hit leaves at once, and not when a fetch is next kept. It takes no memory. Nothing of what is seen
     /// changes.
     pub fn sweep(&mut self)
         ensures { self.new ≡ record self.old { held = self.old.kept } }
     {
-        sweep(&mut self.table, &self.epochs, &mut self.noted);
+        sweep(
+            &mut self.table,
+            &self.epochs,
+            &mut self.noted,
+            &mut self.aimed,
+        );
         settle(&mut self.epochs, &self.table, self.noted, &self.flights);
     }
 
@@ -252,6 +313,7 @@ impl Shelf {
                     &mut self.table,
                     &self.epochs,
                     &mut self.noted,
+                    &mut self.aimed,
                     flight,
                     outcome,
                 );
@@ -285,6 +347,9 @@ fn let_go(
         ≡ map (flight_of epochs.old.known.starts) flights.now.items }
     ensures held { IsPartOf (map kept_object table.new.objects) (map kept_object table.old.objects) }
     ensures up_to { (top : ℕ) → AreUpToEpoch top table.old.objects → AreUpToEpoch top table.new.objects }
+    ensures tried { (aimed : ℕ) → noted ≤ aimed
+        → AreTried epochs.old.known.starts noted aimed (take table.old.passed table.old.objects)
+        → AreTried epochs.new.known.starts noted aimed (take table.new.passed table.new.objects) }
     ensures settled { past (least_needed epochs.new.known.newest noted table.new.objects flights.now.items)
         epochs.new.known.starts ≡ epochs.new.known.starts }
     ensures newest { epochs.new.known.newest ≡ epochs.old.known.newest }
@@ -335,11 +400,13 @@ fn keep(
     table: &mut ObjectTable,
     epochs: &Epochs,
     noted: &mut u64,
+    aimed: &mut u64,
     flight: Open<Launched>,
     outcome: Outcome,
 ) -> bool
     requires spare { 0 < table.old.spare }
-    requires noted { noted.old ≤ epochs.now.known.newest }
+    requires aim { (noted.old ≤ aimed.old) × (aimed.old ≤ epochs.now.known.newest) }
+    requires tried { AreTried epochs.now.known.starts noted.old aimed.old (take table.old.passed table.old.objects) }
     requires begun { flight.what.begun ≤ epochs.now.known.newest }
     requires objects { AreUpToEpoch epochs.now.known.newest table.old.objects }
     ensures reply { result ≡ is_gained table.old.limit (kept_in epochs.now.known.starts noted.old table.old.objects)
@@ -350,7 +417,8 @@ fn keep(
         (kept_in epochs.now.known.starts noted.new table.new.objects) }
     ensures limit { table.new.limit ≡ table.old.limit }
     ensures spare { table.new.spare + 1 ≡ table.old.spare }
-    ensures noted { noted.new ≤ epochs.now.known.newest }
+    ensures aim { (noted.new ≤ aimed.new) × (aimed.new ≤ epochs.now.known.newest) }
+    ensures tried { AreTried epochs.now.known.starts noted.new aimed.new (take table.new.passed table.new.objects) }
     ensures objects { AreUpToEpoch epochs.now.known.newest table.new.objects }
 {
     if is_hit(epochs, &flight) {
@@ -358,7 +426,7 @@ fn keep(
         return false;
     }
     match outcome {
-        Outcome::Got(got) => keep_content(table, epochs, noted, flight, got),
+        Outcome::Got(got) => keep_content(table, epochs, noted, aimed, flight, got),
         _ => {
             table.give_back();
             false
@@ -379,12 +447,14 @@ fn keep_content(
     table: &mut ObjectTable,
     epochs: &Epochs,
     noted: &mut u64,
+    aimed: &mut u64,
     flight: Open<Launched>,
     got: Got,
 ) -> bool
     requires spare { 0 < table.old.spare }
     requires unhit { is_hit epochs.now.known.starts flight.what ≡ false }
-    requires noted { noted.old ≤ epochs.now.known.newest }
+    requires aim { (noted.old ≤ aimed.old) × (aimed.old ≤ epochs.now.known.newest) }
+    requires tried { AreTried epochs.now.known.starts noted.old aimed.old (take table.old.passed table.old.objects) }
     requires begun { flight.what.begun ≤ epochs.now.known.newest }
     requires objects { AreUpToEpoch epochs.now.known.newest table.old.objects }
     ensures reply { result ≡ is_gained table.old.limit (kept_in epochs.now.known.starts noted.old table.old.objects)
@@ -396,14 +466,15 @@ fn keep_content(
         (kept_in epochs.now.known.starts noted.new table.new.objects) }
     ensures limit { table.new.limit ≡ table.old.limit }
     ensures spare { table.new.spare + 1 ≡ table.old.spare }
-    ensures noted { noted.new ≤ epochs.now.known.newest }
+    ensures aim { (noted.new ≤ aimed.new) × (aimed.new ≤ epochs.now.known.newest) }
+    ensures tried { AreTried epochs.now.known.starts noted.new aimed.new (take table.new.passed table.new.objects) }
     ensures objects { AreUpToEpoch epochs.now.known.newest table.new.objects }
 {
     if got.status() != 200 {
         table.give_back();
         return false;
     }
-    sweep(table, epochs, noted);
+    sweep(table, epochs, noted, aimed);
     let (kind, body) = got.into_parts();
     let Launched { fetching, begun } = flight.what;
     let Fetching { key, ccid } = fetching;
@@ -419,14 +490,16 @@ fn keep_content(
 }
 
 // takes out the objects that starts have hit, and notes that the others need not be tried with these starts again
-fn sweep(table: &mut ObjectTable, epochs: &Epochs, noted: &mut u64)
-    requires noted { noted.old ≤ epochs.now.known.newest }
+fn sweep(table: &mut ObjectTable, epochs: &Epochs, noted: &mut u64, aimed: &mut u64)
+    requires aim { (noted.old ≤ aimed.old) × (aimed.old ≤ epochs.now.known.newest) }
+    requires tried { AreTried epochs.now.known.starts noted.old aimed.old (take table.old.passed table.old.objects) }
     requires objects { AreUpToEpoch epochs.now.known.newest table.old.objects }
     ensures kept { map kept_object table.new.objects ≡ kept_in epochs.now.known.starts noted.old table.old.objects }
     ensures fresh { (swept : List Object) → AreUpToEpoch epochs.now.known.newest swept
         → kept_in epochs.now.known.starts noted.new swept ≡ map kept_object swept }
     ensures objects { AreUpToEpoch epochs.now.known.newest table.new.objects }
     ensures noted { noted.new ≡ epochs.now.known.newest }
+    ensures aimed { aimed.new ≡ epochs.now.known.newest }
     ensures limit { table.new.limit ≡ table.old.limit }
     ensures spare { table.new.spare ≡ table.old.spare }
 {
@@ -434,35 +507,103 @@ fn sweep(table: &mut ObjectTable, epochs: &Epochs, noted: &mut u64)
     if *noted == newest {
         return;
     }
-    take_out_gone(table, epochs, *noted);
+    walk_if(table, epochs, *noted, aimed, *aimed < newest);
+    try_some(table, epochs, *noted, table.len() as u64);
     *noted = newest;
 }
 
-// takes out the objects that starts have hit
-fn take_out_gone(table: &mut ObjectTable, epochs: &Epochs, noted: u64)
-    ensures objects { map kept_object table.new.objects ≡ kept_in epochs.now.known.starts noted table.old.objects }
+// tries a few objects with the starts, and notes where all were tried with those up to one
+fn sweep_portion(table: &mut ObjectTable, epochs: &Epochs, noted: &mut u64, aimed: &mut u64)
+    requires behind { noted.old < epochs.now.known.newest }
+    requires aim { (noted.old ≤ aimed.old) × (aimed.old ≤ epochs.now.known.newest) }
+    requires tried { AreTried epochs.now.known.starts noted.old aimed.old (take table.old.passed table.old.objects) }
+    ensures kept { kept_in epochs.now.known.starts noted.new table.new.objects
+        ≡ kept_in epochs.now.known.starts noted.old table.old.objects }
+    ensures held { IsPartOf (map kept_object table.new.objects) (map kept_object table.old.objects) }
+    ensures aim { (noted.new ≤ aimed.new) × (aimed.new ≤ epochs.now.known.newest) }
+    ensures tried { AreTried epochs.now.known.starts noted.new aimed.new (take table.new.passed table.new.objects) }
     ensures up_to { (top : ℕ) → AreUpToEpoch top table.old.objects → AreUpToEpoch top table.new.objects }
     ensures limit { table.new.limit ≡ table.old.limit }
     ensures spare { table.new.spare ≡ table.old.spare }
 {
-    table.close_up();
-    let mut i = table.len();
-    'objects: while i > 0 {
-        i -= 1;
-        take_out_if_gone(table, epochs, noted, i);
+    walk_if(table, epochs, *noted, aimed, *aimed == *noted);
+    // two at least, so that the walk ends though each call moves an object behind it
+    let portion = (TRIALS / (epochs.newest() - *noted)).max(2);
+    try_some(table, epochs, *noted, portion);
+    note_if_tried(table, epochs, noted, *aimed);
+}
+
+// notes that all objects were tried with the starts up to the one that a walk aims at, where it has come to its end
+fn note_if_tried(table: &ObjectTable, epochs: &Epochs, noted: &mut u64, aimed: u64)
+    requires aim { noted.old ≤ aimed }
+    requires tried { AreTried epochs.now.known.starts noted.old aimed (take table.now.passed table.now.objects) }
+    ensures kept { kept_in epochs.now.known.starts noted.new table.now.objects
+        ≡ kept_in epochs.now.known.starts noted.old table.now.objects }
+    ensures aim { noted.new ≤ aimed }
+    ensures tried { AreTried epochs.now.known.starts noted.new aimed (take table.now.passed table.now.objects) }
+{
+    match table.next() {
+        Some(_) => {}
+        None => *noted = aimed,
     }
 }
 
-// takes out the object at this index where a start has hit it
-fn take_out_if_gone(table: &mut ObjectTable, epochs: &Epochs, noted: u64, i: usize)
-    requires { i < length table.old.objects }
-    ensures objects { (object : Object) → slice_get table.old.objects i ≡ Some object → table.new.objects
-        ≡ (if is_gone epochs.now.known.starts noted object then remove table.old.objects i else table.old.objects) }
+// a walk begins where it is due, which is to try each object with all starts so far
+fn walk_if(table: &mut ObjectTable, epochs: &Epochs, noted: u64, aimed: &mut u64, is_due: bool)
+    requires aim { (noted ≤ aimed.old) × (aimed.old ≤ epochs.now.known.newest) }
+    requires tried { AreTried epochs.now.known.starts noted aimed.old (take table.old.passed table.old.objects) }
+    ensures table { table.new ≡ record table.old { passed = table.new.passed } }
+    ensures aim { (noted ≤ aimed.new) × (aimed.new ≤ epochs.now.known.newest) }
+    ensures due { is_due ≡ true → aimed.new ≡ epochs.now.known.newest }
+    ensures under_way { is_due ≡ false → aimed.new ≡ aimed.old }
+    ensures tried { AreTried epochs.now.known.starts noted aimed.new (take table.new.passed table.new.objects) }
+{
+    if is_due {
+        *aimed = epochs.newest();
+        table.walk_anew();
+    }
+}
+
+// a walk comes to so many objects, or to its end, and takes out those that starts have hit
+fn try_some(table: &mut ObjectTable, epochs: &Epochs, noted: u64, n: u64)
+    ensures kept { kept_in epochs.now.known.starts noted table.new.objects
+        ≡ kept_in epochs.now.known.starts noted table.old.objects }
+    ensures held { IsPartOf (map kept_object table.new.objects) (map kept_object table.old.objects) }
+    ensures tried { (aimed : ℕ) → noted ≤ aimed
+        → AreTried epochs.now.known.starts noted aimed (take table.old.passed table.old.objects)
+        → AreTried epochs.now.known.starts noted aimed (take table.new.passed table.new.objects) }
+    ensures left { length table.new.objects - table.new.passed ≤ length table.old.objects - table.old.passed - n }
+    ensures up_to { (top : ℕ) → AreUpToEpoch top table.old.objects → AreUpToEpoch top table.new.objects }
     ensures limit { table.new.limit ≡ table.old.limit }
     ensures spare { table.new.spare ≡ table.old.spare }
 {
-    if is_gone(epochs, noted, table.at(i)) {
-        drop(table.take_out(i));
+    'objects: for _step in 0..n {
+        try_next(table, epochs, noted);
+    }
+}
+
+// a walk comes to the next object, and takes it out where a start has hit it
+fn try_next(table: &mut ObjectTable, epochs: &Epochs, noted: u64)
+    ensures kept { kept_in epochs.now.known.starts noted table.new.objects
+        ≡ kept_in epochs.now.known.starts noted table.old.objects }
+    ensures held { IsPartOf (map kept_object table.new.objects) (map kept_object table.old.objects) }
+    ensures tried { (aimed : ℕ) → noted ≤ aimed
+        → AreTried epochs.now.known.starts noted aimed (take table.old.passed table.old.objects)
+        → AreTried epochs.now.known.starts noted aimed (take table.new.passed table.new.objects) }
+    ensures left { length table.new.objects - table.new.passed ≤ length table.old.objects - table.old.passed - 1 }
+    ensures up_to { (top : ℕ) → AreUpToEpoch top table.old.objects → AreUpToEpoch top table.new.objects }
+    ensures limit { table.new.limit ≡ table.old.limit }
+    ensures spare { table.new.spare ≡ table.old.spare }
+{
+    match table.next() {
+        Some(object) => {
+            if is_gone(epochs, noted, object) {
+                drop(table.take_next());
+            } else {
+                table.pass();
+            }
+        }
+        None => {}
     }
 }
 
@@ -475,6 +616,9 @@ fn settle(epochs: &mut Epochs, table: &ObjectTable, noted: u64, flights: &Row<Op
     ensures newest { epochs.new.known.newest ≡ epochs.old.known.newest }
     ensures kept { kept_in epochs.new.known.starts noted table.now.objects
         ≡ kept_in epochs.old.known.starts noted table.now.objects }
+    ensures tried { (aimed : ℕ) → noted ≤ aimed
+        → AreTried epochs.old.known.starts noted aimed (take table.now.passed table.now.objects)
+        → AreTried epochs.new.known.starts noted aimed (take table.now.passed table.now.objects) }
     ensures fetches { map (flight_of epochs.new.known.starts) flights.now.items
         ≡ map (flight_of epochs.old.known.starts) flights.now.items }
 {

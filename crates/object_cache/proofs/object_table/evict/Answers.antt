@@ -8,4 +8,4 @@ returns-clause-row c =
     let v = c.evict.invariant in
     let few : total c.evict.row.items ≤ c.args.most = omega (arith, c.evict-test.false, v.sum) in
     let stay : c.evict.row.items ≡ evicted c.args.most c.args.row.now.items = sym (evicted_none c.args.most c.evict.row.items few) ∙ v.stay in
-    λ i. record { items = stay i; spare = v.spare i }
+    λ i. record { items = stay i; spare = v.spare i; passed = c.evict.row.passed }

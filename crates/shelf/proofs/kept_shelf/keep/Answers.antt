@@ -20,6 +20,7 @@ returns-in_default c = record {
   held = rw c.give_back-in_default.ensures (part_or_same _ _);
   limit = search rules;
   spare = search rules;
-  noted = search rules;
+  aim = search rules;
+  tried = rw c.give_back-in_default.ensures c.requires.tried;
   objects = search rules;
 }

@@ -2,6 +2,7 @@ use Rattle.std.proofs.Common.{sym, ◌∙◌}
 use Rattle.std.proofs.lemmas.Bool.{eq-eqb, ne_eqb}
 use Rattle.shelf.proofs.ShelfLemmas.{brought_full, brought_other, gained_full}
 use Rattle.shelf.proofs.StaleLemmas.{up_filled}
+use Rattle.shelf.proofs.TriedLemmas.{tried_equal}
 use Rattle.shelf.proofs.kept_shelf.keep_content.Goals as goal
 use Rattle.shelf.proofs.HeldLemmas.{part_or_kept, part_or_same}
 use Rattle.shelf.specs.KeptShelf.{flight_of, kept_in}
@@ -35,3 +36,6 @@ returns-then-status-ne200-clause-held c = rw c.give_back.ensures (part_or_same _
 
 pub returns-clause-held : goal.returns-clause-held
 returns-clause-held c = part_or_kept _ _ _ (c.sweep.ensures.fresh c.fill_reserved.new.self.objects (returns-clause-objects c))
+
+pub returns-clause-tried : goal.returns-clause-tried
+returns-clause-tried c = tried_equal _ _ _ _ (c.sweep.ensures.noted ∙ sym c.sweep.ensures.aimed)

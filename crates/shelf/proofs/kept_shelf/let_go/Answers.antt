@@ -2,6 +2,7 @@ use Rattle.std.proofs.Common.{map, not, ap, ◌∙◌}
 use Rattle.object_cache.specs.ObjectTable as objects
 use Rattle.shelf.proofs.HeldLemmas.{part_others, part_same}
 use Rattle.shelf.proofs.StaleLemmas.{kept_others, past_twice, up_filter}
+use Rattle.shelf.proofs.TriedLemmas.{tried_passed}
 use Rattle.shelf.proofs.kept_shelf.let_go.Goals as goal
 use Rattle.shelf.specs.KeptShelf.{kept_in, kept_object, least_needed}
 
@@ -22,3 +23,7 @@ returns-then-newest-noted-clause-settled c = rw (c.settle.ensures.newest, c.sett
 
 pub returns-else-newest-noted-clause-held : goal.returns-else-newest-noted-clause-held
 returns-else-newest-noted-clause-held c = part_same (map kept_object c.args.table.now.objects)
+
+pub returns-then-newest-noted-clause-tried : goal.returns-then-newest-noted-clause-tried
+returns-then-newest-noted-clause-tried c aimed more tried =
+    c.settle.ensures.tried aimed more (tried_passed c.args.epochs.now.known.starts c.args.noted aimed c.args.table.now c.take.new.self c.take.ensures.passed tried)

@@ -1,5 +1,6 @@
 use Rattle.std.proofs.Common.{◌≡◌, min, arith, ap, ◌∙◌}
 use Rattle.shelf.proofs.StaleLemmas.{least_top, needed_none, needed_some, settled_fetches}
+use Rattle.shelf.proofs.TriedLemmas.{tried_settled}
 use Rattle.shelf.proofs.kept_shelf.settle.Goals as goal
 use Rattle.shelf.specs.KeptShelf.{least_begun, least_needed}
 
@@ -31,3 +32,15 @@ pub returns-else-len-eq0-clause-fetches : goal.returns-else-len-eq0-clause-fetch
 returns-else-len-eq0-clause-fetches c =
     let known = c.args.epochs.now.known in
     settled_fetches known.starts c.settle-else-len-eq0.new.self.known.starts known.newest c.args.noted c.min.result c.args.table.now.objects c.args.flights.now.items (some_is c) c.settle-else-len-eq0.ensures.agrees 0 c.requires.begun
+
+pub returns-then-len-eq0-clause-tried : goal.returns-then-len-eq0-clause-tried
+returns-then-len-eq0-clause-tried c aimed =
+    let known = c.args.epochs.now.known in
+    let table = c.args.table.now in
+    tried_settled known.starts c.settle.new.self.known.starts known.newest c.args.noted aimed c.first_begun-oldest.result table.passed table.objects c.args.flights.now.items (none_is c) c.settle.ensures.agrees
+
+pub returns-else-len-eq0-clause-tried : goal.returns-else-len-eq0-clause-tried
+returns-else-len-eq0-clause-tried c aimed =
+    let known = c.args.epochs.now.known in
+    let table = c.args.table.now in
+    tried_settled known.starts c.settle-else-len-eq0.new.self.known.starts known.newest c.args.noted aimed c.min.result table.passed table.objects c.args.flights.now.items (some_is c) c.settle-else-len-eq0.ensures.agrees

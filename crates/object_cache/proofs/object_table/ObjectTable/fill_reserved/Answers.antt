@@ -10,10 +10,10 @@ returns-clause-after c =
     let i = c.self.inside in
     let object = c.args.object in
     let stays : is_filled i.limit i.row.items object ≡ true = search rules in
-    ap (λ (v : RowSeen Object). kept i.limit v.items v.spare) c.replace.ensures.row
-    ∙ ap (λ (n : ℕ). kept i.limit (evicted (i.limit - n) (others object.key i.row.items) ++ object ∷ []) (i.row.spare - 1)) c.body_length.ensures
-    ∙ ap (λ (xs : List Object). kept i.limit xs (i.row.spare - 1)) (filled_true i.limit i.row.items object stays)
-    ∙ ap (λ (v : Kept). kept v.limit (filled v.limit v.objects object) (v.spare - 1)) c.self.view_is
+    ap (λ (v : RowSeen Object). kept i.limit v.items v.spare v.passed) c.replace.ensures.row
+    ∙ ap (λ (n : ℕ). kept i.limit (evicted (i.limit - n) (others object.key i.row.items) ++ object ∷ []) (i.row.spare - 1) c.replace.new.row.passed) c.body_length.ensures
+    ∙ ap (λ (xs : List Object). kept i.limit xs (i.row.spare - 1) c.replace.new.row.passed) (filled_true i.limit i.row.items object stays)
+    ∙ ap (λ (v : Kept). kept v.limit (filled v.limit v.objects object) (v.spare - 1) c.replace.new.row.passed) c.self.view_is
 
 pub invariant_of-self-2 : goal.invariant_of-self-2
 invariant_of-self-2 c =

@@ -1,4 +1,4 @@
-use Rattle.std.proofs.Common.{Some, slice_get, sym, ap, ◌∙◌}
+use Rattle.std.proofs.Common.{slice_get, sym, ap, ◌∙◌}
 use Rattle.rows.specs.Row.{RowSeen}
 use Rattle.rows.proofs.RowLemmas.{index_placed}
 use Rattle.rows.proofs.row.Row.at.Goals as goal

@@ -1,6 +1,6 @@
 use Rattle.std.proofs.Common.{None, get_or, length, slice_get, arith, sym, ap, ◌∙◌}
 use Rattle.rows.specs.Row.{RowSeen}
-use Rattle.rows.proofs.RowLemmas.{index_placed, item_at, none_next}
+use Rattle.rows.proofs.RowLemmas.{index_placed, item_at}
 use Rattle.rows.proofs.row.Row.next.Goals as goal
 
 pub returns : goal.returns

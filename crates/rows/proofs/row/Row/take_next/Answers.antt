@@ -1,7 +1,7 @@
-use Rattle.std.proofs.Common.{◌<◌, List, Option, None, Some, arith, get_or, length, remove, slice_get, take, refl, subst, sym, ap, ◌∙◌}
+use Rattle.std.proofs.Common.{List, Option, length, remove, slice_get, take, refl, sym, ap, ◌∙◌}
 use Rattle.rows.specs.Cells.{present}
 use Rattle.rows.specs.Row.{RowSeen}
-use Rattle.rows.proofs.RowLemmas.{gone_set, index_placed, item_at, next_placed, row_taken, seen, taken_before}
+use Rattle.rows.proofs.RowLemmas.{gone_set, index_placed, row_taken, seen, taken_before}
 use Rattle.rows.proofs.row.Row.take_next.Goals as goal
 
 pub first_place-self-inside-requires-clause-gone : goal.first_place-self-inside-requires-clause-gone

@@ -1,7 +1,7 @@
-use Rattle.std.proofs.Common.{arith, List, Option, None, Some, get_or, min, remove, slice_get, take, subst, sym, ap, ◌∙◌}
+use Rattle.std.proofs.Common.{arith, List, Option, None, get_or, remove, slice_get, take, sym, ap, ◌∙◌}
 use Rattle.rows.specs.Cells.{present}
-use Rattle.rows.specs.Row.{IsSolid, RowSeen}
-use Rattle.rows.proofs.RowLemmas.{gone_set, index_placed, item_at, row_taken, seen, solid_set, some_counted}
+use Rattle.rows.specs.Row.{RowSeen}
+use Rattle.rows.proofs.RowLemmas.{gone_set, index_placed, item_at, row_taken, seen, solid_set}
 use Rattle.rows.proofs.row.Row.take_out.Goals as goal
 
 pub first_place-self-inside-requires-clause-gone : goal.first_place-self-inside-requires-clause-gone

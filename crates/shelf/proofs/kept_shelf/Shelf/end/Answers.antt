@@ -26,14 +26,15 @@ invariant_of-self c =
     let fewer = taken_length c.in-Some.flight c.self.inside.flights.items c.take.new.self.items c.in-Some.ensures.one in
     let few = v.room in
     let spare = c.keep-kept.ensures.spare in
-    let noted = c.keep-kept.ensures.noted in
+    let aim = c.keep-kept.ensures.aim in
     let same = c.settle.ensures.newest in record {
       room = omega (arith, fewer, few, spare);
       numbered = rw c.take.ensures.after (up_to_filter _ _ _ v.numbered);
       rising = rw c.take.ensures.after (rising_filter _ _ _ v.rising);
       begun = rw (c.settle.ensures.newest, c.take.ensures.after) (begun_filter _ 0 c.self.inside.epochs.known.newest c.self.inside.flights.items v.begun);
       up_to = rw c.settle.ensures.newest c.keep-kept.ensures.objects;
-      swept = omega (arith, noted, same);
+      aim = (aim.0, omega (arith, aim.1, same));
+      tried = c.settle.ensures.tried c.keep-kept.new.aimed aim.0 c.keep-kept.ensures.tried;
       settled = rw (c.settle.ensures.newest, c.settle.ensures.starts) (past_twice (least_needed i.epochs.known.newest c.keep-kept.new.noted c.keep-kept.new.table.objects c.take.new.self.items) i.epochs.known.starts);
     }
 

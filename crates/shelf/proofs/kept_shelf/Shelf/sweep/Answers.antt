@@ -1,6 +1,7 @@
-use Rattle.std.proofs.Common.{arith, ap, ◌∙◌}
+use Rattle.std.proofs.Common.{arith, ap, sym, ◌∙◌}
 use Rattle.shelf.proofs.ShelfLemmas.{shelf}
 use Rattle.shelf.proofs.StaleLemmas.{past_twice}
+use Rattle.shelf.proofs.TriedLemmas.{tried_equal}
 use Rattle.shelf.proofs.kept_shelf.Shelf.sweep.Goals as goal
 use Rattle.shelf.specs.KeptShelf.{ShelfView, least_needed}
 
@@ -9,13 +10,15 @@ invariant_of-self c =
     let i = c.self.inside in
     let v = c.self.invariant in
     let noted = c.sweep.ensures.noted in
+    let aimed = c.sweep.ensures.aimed in
     let same = c.settle.ensures.newest in record {
       room = rw c.sweep.ensures.spare v.room;
       numbered = v.numbered;
       rising = v.rising;
       begun = rw c.settle.ensures.newest v.begun;
       up_to = rw c.settle.ensures.newest c.sweep.ensures.objects;
-      swept = omega (arith, noted, same);
+      aim = (omega (arith, noted, aimed), omega (arith, aimed, same));
+      tried = tried_equal _ _ _ _ (noted ∙ sym aimed);
       settled = rw (c.settle.ensures.newest, c.settle.ensures.starts) (past_twice (least_needed i.epochs.known.newest c.sweep.new.noted c.sweep.new.table.objects i.flights.items) i.epochs.known.starts);
     }
 

@@ -3,6 +3,7 @@ use Rattle.epochs.specs.EpochsList.{past}
 use Rattle.object_cache.specs.ObjectTable as objects
 use Rattle.shelf.proofs.ShelfLemmas.{shelf}
 use Rattle.shelf.proofs.StaleLemmas.{kept_moved, needed_moved, up_moved}
+use Rattle.shelf.proofs.TriedLemmas.{tried_passed}
 use Rattle.shelf.proofs.kept_shelf.Shelf.touch.Goals as goal
 use Rattle.rows.specs.Row.{moved}
 use Rattle.shelf.proofs.HeldLemmas.{part_moved}
@@ -19,7 +20,8 @@ invariant_of-self c =
       rising = v.rising;
       begun = v.begun;
       up_to = rw c.touch.ensures.after (up_moved newest test i.table.objects v.up_to);
-      swept = v.swept;
+      aim = v.aim;
+      tried = tried_passed i.epochs.known.starts i.noted i.aimed i.table c.touch.new.self c.touch.ensures.passed v.tried;
       settled = rw c.touch.ensures.after (ap (λ n. past n i.epochs.known.starts) (needed_moved newest i.noted test i.table.objects i.flights.items) ∙ v.settled);
     }
 

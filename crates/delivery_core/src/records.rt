@@ -1,6 +1,6 @@
 //! The deliveries that are open, and the rows of those that were finished.
 
-ghost use Rattle.std.specs.Prelude.{◌≡◌, ◌+◌, ◌-◌, ◌^◌, ◌<◌, ◌≤◌, [], OnOk, OnErr, is_some, max, length};
+ghost use Rattle.std.specs.Prelude.{◌≡◌, true, ◌+◌, ◌-◌, ◌^◌, ◌<◌, ◌≤◌, [], OnOk, OnErr, is_some, max, length};
 ghost use Rattle.std.specs.List.{find};
 ghost use Rattle.shelf.specs.Open.{is_named};
 ghost use Rattle.delivery_core.specs.Records.{begun, finish_reply, finish_after, finished_row};
@@ -98,6 +98,10 @@ impl Records {
     pub fn is_open(&self, pass: u32, delivery: u64) -> bool
         ensures { result ≡ is_some (find (is_named delivery pass) self.now.deliveries) }
     {
+        // most often it is the oldest that is asked for
+        if is_first(&self.deliveries, pass, delivery) {
+            return true;
+        }
         let named = Named {
             number: delivery,
             pass,
@@ -163,6 +167,16 @@ impl Records {
             }
             None => None,
         }
+    }
+}
+
+// whether the first open delivery has this number, and this pass began it
+fn is_first(deliveries: &Row<Open<Admission>>, pass: u32, delivery: u64) -> bool
+    ensures { result ≡ true → is_some (find (is_named delivery pass) deliveries.now.items) ≡ true }
+{
+    match deliveries.first() {
+        Some(first) => first.number == delivery && first.pass == pass,
+        None => false,
     }
 }
 

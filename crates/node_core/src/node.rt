@@ -142,6 +142,7 @@ impl Node {
     }
 
     // the end of a fetch, of a refresh or of a delivery: one that is open has its place
+    #[inline(never)]
     fn end(&mut self, alloc: Global, pass: u32, call: Call) -> Result<Reply, AllocError>
         requires { is_end (event_of call) ≡ true }
         ensures told { IfOk result (λ r. Adds self.old (pass, event_of call) r self.new) }
@@ -169,6 +170,7 @@ impl Node {
     }
 
     // another call: what it opens has its places
+    #[inline(never)]
     fn begin(&mut self, alloc: Global, pass: u32, call: Call) -> Result<Reply, AllocError>
         requires { is_end (event_of call) ≡ false }
         ensures told { IfOk result (λ r. Adds self.old (pass, event_of call) r self.new) }

@@ -14,8 +14,8 @@ use std::marker::Model;
 
 /// The objects that are kept, the least recently used first. It is seen as the most bytes that they may have together,
 /// the list of them, how many more can be filled in without memory, and how many of them a walk from the first on has
-/// passed. Each call takes constant time on average, whatever the number of objects, but for `close_up`, which goes
-/// through them all; of those that leave, each counts for itself.
+/// passed. Each call takes constant time on average, whatever the number of objects; of those that leave, each counts for
+/// itself.
 #[derive(Drop)]
 pub struct ObjectTable {
     row: Row<Object>,
@@ -139,34 +139,6 @@ impl ObjectTable {
         ensures { result ≡ length self.now.objects }
     {
         self.row.len()
-    }
-
-    /// Closes up the places in which the objects are kept, so that `at` and `take_out` take constant time where objects
-    /// are taken out from the last to the first. It goes through all objects, and a walk begins anew.
-    pub fn close_up(&mut self)
-        ensures { self.new ≡ record self.old { passed = 0 } }
-    {
-        self.row.close_up();
-    }
-
-    /// The object at an index, in constant time where objects are taken out as `close_up` says.
-    pub fn at(&self, i: usize) -> &Object
-        requires { i < length self.now.objects }
-        ensures { slice_get self.now.objects i ≡ Some result.now }
-    {
-        self.row.at(i)
-    }
-
-    /// Takes out the object at an index, and answers it. The others keep their order, as many can be filled in without
-    /// memory as before, and a walk begins anew. It takes constant time where objects are taken out as `close_up` says.
-    pub fn take_out(&mut self, i: usize) -> Object
-        requires { i < length self.old.objects }
-        ensures out { slice_get self.old.objects i ≡ Some result }
-        ensures after { self.new ≡ record self.old { objects = remove self.old.objects i; passed = 0 } }
-    {
-        let object = self.row.take_out(i);
-        self.sum -= body_length(&object.body);
-        object
     }
 
     /// The object that a walk comes to next.

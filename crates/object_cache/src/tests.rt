@@ -44,17 +44,31 @@ fn a_reserved_place_is_given_back(rt: HostRuntime) -> Result<(), Fail> {
     Ok(())
 }
 
+// takes out the next object of a walk, and answers its fetch
+fn take_next(table: &mut ObjectTable) -> Option<u64> {
+    table.next()?;
+    Some(table.take_next().fetch)
+}
+
+// passes the next object of a walk, and answers its fetch
+fn pass(table: &mut ObjectTable) -> Option<u64> {
+    let fetch = table.next()?.fetch;
+    table.pass();
+    Some(fetch)
+}
+
 #[test]
 fn what_is_taken_out_is_not_found(rt: HostRuntime) -> Result<(), Fail> {
     let mut table = ObjectTable::new(rt.alloc(), 6)?;
     let key = key_of(rt.alloc())?;
     table.reserve_fill(rt.alloc())?;
     assert!(rt; table.fill_reserved(object_of(rt.alloc())?));
-    table.close_up();
-    if table.len() > 0 {
-        assert_eq!(rt; table.at(0).fetch, 1);
-        assert_eq!(rt; table.take_out(0).fetch, 1);
-    }
+    assert_eq!(rt; pass(&mut table), Some(1));
+    assert!(rt; take_next(&mut table).is_none());
+    table.walk_anew();
+    assert_eq!(rt; take_next(&mut table), Some(1));
     assert!(rt; table.find(&key).is_none());
+    assert_eq!(rt; table.len(), 0);
+    assert_eq!(rt; table.held(), 0);
     Ok(())
 }

@@ -1,12 +1,12 @@
 -- What the items of a row are after each call on its places.
-use Rattle.std.proofs.Common.{◌≡◌, All, Contains, ℕ, zero, suc, ◌+◌, ◌-◌, ◌<◌, ◌≤◌, ◌⊎◌, inl, inr, Bool, true, false, cond, not, true≢false, List, [], ◌∷◌, ◌++◌, Option, None, Some, is_some, map, length, get_or, set, take, drop, slice_get, remove, min, filter, find, option_to_list, replicate, refl, sym, ap, subst, ◌∙◌, arith, length-set, length-append, append_assoc}
-use Rattle.std.proofs.lemmas.List.{append-nil, get_or_at, set_at, set-append_left, take_at, drop_at, take_all, drop_all, drop_more, take-append-le, take_more, take-set-le, get_or_append_left, map_push, length_push, length-map, length-replicate, replicate_more}
+use Rattle.std.proofs.Common.{◌≡◌, All, Contains, ℕ, zero, suc, ◌+◌, ◌-◌, ◌<◌, ◌≤◌, ◌⊎◌, inl, inr, Bool, true, false, cond, not, true≢false, List, [], ◌∷◌, ◌++◌, Option, None, Some, is_some, map, length, get_or, set, take, drop, slice_get, remove, filter, find, option_to_list, replicate, refl, sym, ap, subst, ◌∙◌, arith, length-set, length-append, append_assoc}
+use Rattle.std.proofs.lemmas.List.{append-nil, get_or_at, set_at, set-append_left, take_at, drop_at, take_all, drop_all, drop_more, take-append-le, take_more, get_or_append_left, map_push, length_push, length-map, length-replicate, replicate_more}
 use Rattle.std.proofs.lemmas.List.Elements.{filter_map-append, All-cons, All-contains_itself, All-head, All-nil, All-tail}
 use Rattle.std.proofs.lemmas.Option.{none-some, same_Some, slice_get_past}
 use Rattle.std.proofs.lemmas.Bool.{cases_lt}
 use Rattle.rows.specs.Cells.{present, AreApart, slid}
 use Rattle.rows.specs.Cells.{CellsSeen}
-use Rattle.rows.specs.Row.{RowSeen, ArePassed, moved, IsTakenOut, IsPlace, IsRow, IsSolid}
+use Rattle.rows.specs.Row.{RowSeen, ArePassed, moved, IsTakenOut, IsRow}
 
 zero_suc : (n : ℕ) → zero ≡ suc n → ⊥
 zero_suc n e = absurd (omega arith)
@@ -299,21 +299,21 @@ module _ {T : Type 0} where
       let t = taken_out cells p o h in
       omega (arith, ap length t.1.1.0, ap length t.1.1.1, length-append t.0 (o ∷ t.1.0), length-append t.0 t.1.0)
 
-  pub row_taken : (old new : CellsSeen T) (count front spare solid f p less : ℕ) (o : T) → IsRow old count front spare solid
+  pub row_taken : (old new : CellsSeen T) (count front spare walk f p less : ℕ) (o : T) → IsRow old count front spare walk
       → get_or old.cells p None ≡ Some o → new.cells ≡ set old.cells p None → old.spare ≤ new.spare → new.room ≡ old.room
-      → present (take f new.cells) ≡ [] → f ≤ length new.cells → IsSolid new.cells less → IsRow new (count - 1) f spare less
-  row_taken old new count front spare solid f p less o row h is s r gone within first = record {
+      → present (take f new.cells) ≡ [] → f ≤ length new.cells → less ≤ length new.cells → IsRow new (count - 1) f spare less
+  row_taken old new count front spare walk f p less o row h is s r gone within first = record {
     count_is = omega (arith, one_less old.cells p o h, ap (λ (xs : List (Option T)). length (present xs)) is, row.count_is);
     gone = gone;
     within = within;
     at_hand = omega (arith, row.at_hand);
     places = omega (arith, row.places, ap length is, length-set old.cells p None);
-    solid_is = first;
+    walked = first;
   }
 
-  pub some_counted : (seen : CellsSeen T) (count front spare solid p : ℕ) (o : T) → IsRow seen count front spare solid
+  pub some_counted : (seen : CellsSeen T) (count front spare walk p : ℕ) (o : T) → IsRow seen count front spare walk
       → get_or seen.cells p None ≡ Some o → 1 ≤ count
-  some_counted seen count front spare solid p o row h = omega (arith, one_less seen.cells p o h, row.count_is)
+  some_counted seen count front spare walk p o row h = omega (arith, one_less seen.cells p o h, row.count_is)
 
   pub length_slid : (cells : List (Option T)) (p to : ℕ) (c : Option T) → length (slid cells p to c) ≡ length cells
   length_slid cells p to None = refl
@@ -323,26 +323,26 @@ module _ {T : Type 0} where
   abbrev pub seen : List T → ℕ → ℕ → RowSeen T
   seen items spare passed = record { items = items; spare = spare; passed = passed }
 
-  pub row_roomed : (old new : CellsSeen T) (count front spare solid f less : ℕ) → IsRow old count front spare solid
+  pub row_roomed : (old new : CellsSeen T) (count front spare walk f less : ℕ) → IsRow old count front spare walk
       → present new.cells ≡ present old.cells → present (take f new.cells) ≡ [] → f ≤ length new.cells → new.spare ≡ old.spare
-      → new.room + length new.cells ≡ old.room + length old.cells → IsSolid new.cells less → IsRow new count f spare less
-  row_roomed old new count front spare solid f less row items gone within s total first = record {
+      → new.room + length new.cells ≡ old.room + length old.cells → less ≤ length new.cells → IsRow new count f spare less
+  row_roomed old new count front spare walk f less row items gone within s total first = record {
     count_is = row.count_is ∙ ap length (sym items);
     gone = gone;
     within = within;
     at_hand = omega (arith, row.at_hand);
     places = omega (arith, row.places);
-    solid_is = first;
+    walked = first;
   }
 
   pub gone_moved : (cells : List (Option T)) (f p : ℕ) (o : T) → f ≤ length cells → present (take f cells) ≡ []
       → present (take f (set cells p None ++ Some o ∷ [])) ≡ []
   gone_moved cells f p o l h = gone_push (set cells p None) f (Some o) (omega (arith, length-set cells p None)) (gone_set cells f p h)
 
-  pub row_moved : (mid new : CellsSeen T) (count front spare f p : ℕ) (o : T) → IsRow mid count front spare 0
+  pub row_moved : (mid new : CellsSeen T) (count front spare walk f p : ℕ) (o : T) → IsRow mid count front spare walk
       → get_or mid.cells p None ≡ Some o → new.cells ≡ set mid.cells p None ++ Some o ∷ [] → new.spare ≡ mid.spare → new.room + 1 ≡ mid.room
-      → present (take f new.cells) ≡ [] → f ≤ length new.cells → IsRow new count f spare 0
-  row_moved mid new count front spare f p o row h is s r gone within = record {
+      → present (take f new.cells) ≡ [] → f ≤ length new.cells → IsRow new count f spare walk
+  row_moved mid new count front spare walk f p o row h is s r gone within = record {
     count_is =
         row.count_is ∙ one_less mid.cells p o h ∙ sym (length_push (present (set mid.cells p None)) o)
         ∙ ap length (sym (present_append (set mid.cells p None) (Some o ∷ []))) ∙ ap (λ (xs : List (Option T)). length (present xs)) (sym is);
@@ -350,12 +350,12 @@ module _ {T : Type 0} where
     within = within;
     at_hand = omega (arith, row.at_hand);
     places = omega (arith, row.places, ap length is, length_push (set mid.cells p None) (Some o), length-set mid.cells p None);
-    solid_is = refl;
+    walked = omega (arith, row.walked, ap length is, length_push (set mid.cells p None) (Some o), length-set mid.cells p None);
   }
 
-  pub row_pushed : (mid new : CellsSeen T) (count front spare : ℕ) (o : T) → IsRow mid count front spare 0 → 0 < spare
-      → new.cells ≡ mid.cells ++ Some o ∷ [] → mid.spare ≤ new.spare + 1 → new.room + 1 ≡ mid.room → IsRow new (count + 1) front (spare - 1) 0
-  row_pushed mid new count front spare o row some is s r = record {
+  pub row_pushed : (mid new : CellsSeen T) (count front spare walk : ℕ) (o : T) → IsRow mid count front spare walk → 0 < spare
+      → new.cells ≡ mid.cells ++ Some o ∷ [] → mid.spare ≤ new.spare + 1 → new.room + 1 ≡ mid.room → IsRow new (count + 1) front (spare - 1) walk
+  row_pushed mid new count front spare walk o row some is s r = record {
     count_is =
         ap (λ (n : ℕ). n + 1) row.count_is ∙ sym (length_push (present mid.cells) o)
         ∙ ap length (sym (present_append mid.cells (Some o ∷ []))) ∙ ap (λ (xs : List (Option T)). length (present xs)) (sym is);
@@ -363,7 +363,7 @@ module _ {T : Type 0} where
     within = omega (arith, row.within, ap length is, length_push mid.cells (Some o));
     at_hand = omega (arith, row.at_hand);
     places = omega (arith, row.places, ap length is, length_push mid.cells (Some o));
-    solid_is = refl;
+    walked = omega (arith, row.walked, ap length is, length_push mid.cells (Some o));
   }
 
   pub present_pushed : (cells : List (Option T)) (o : T) → present (cells ++ Some o ∷ []) ≡ present cells ++ o ∷ []
@@ -409,49 +409,6 @@ module _ {T : Type 0} where
   index_placed (Some x ∷ cells) (suc p) (suc i) o l h =
       let r = index_placed cells p i o (omega (arith, l)) h in
       (r.0, ap (λ (ys : List T). x ∷ ys) r.1)
-
-  few_present : (cells : List (Option T)) (n : ℕ) → length (present (take n cells)) ≤ n
-  few_present cells zero = omega arith
-  few_present [] (suc n) = omega arith
-  few_present (None ∷ cells) (suc n) = let rest = few_present cells n in omega (arith, rest)
-  few_present (Some x ∷ cells) (suc n) = let rest = few_present cells n in omega (arith, rest)
-
-  -- where the first places all have items, each item's index is its place
-  solid_at : (cells : List (Option T)) (solid i : ℕ) → IsSolid cells solid → i < solid
-      → (length (present (take i cells)) ≡ i) × (is_some (get_or cells i None) ≡ true)
-  solid_at cells zero i s l = absurd (omega (arith, l))
-  solid_at [] (suc n) i s l = absurd (omega (arith, s))
-  solid_at (None ∷ cells) (suc n) i s l = let few = few_present cells n in absurd (omega (arith, few, s))
-  solid_at (Some x ∷ cells) (suc n) zero s l = (refl, refl)
-  solid_at (Some x ∷ cells) (suc n) (suc i) s l =
-      let r = solid_at cells n i (omega (arith, s)) (omega (arith, l)) in
-      (omega (arith, r.0), r.1)
-
-  solid_less : (cells : List (Option T)) (solid k : ℕ) → IsSolid cells solid → k ≤ solid → IsSolid cells k
-  solid_less cells solid k s l =
-      elim (cases_lt k solid) [
-        | inl m ↦ (solid_at cells solid k s m).0
-        | inr m ↦ let e : solid ≡ k = omega (arith, l, m) in subst (λ (n : ℕ). IsSolid cells n) e s
-      ]
-
-  pub solid_all : (cells : List (Option T)) (n : ℕ) → length cells ≡ n → n ≡ length (present cells) → IsSolid cells n
-  solid_all cells n all is = ap (λ (xs : List (Option T)). length (present xs)) (take_all n cells (omega (arith, all))) ∙ sym is
-
-  pub solid_set : (cells new : List (Option T)) (solid p : ℕ) → new ≡ set cells p None → IsSolid cells solid → IsSolid new (min solid p)
-  solid_set cells new solid p is s =
-      ap (λ (xs : List (Option T)). length (present (take (min solid p) xs))) is
-      ∙ ap (λ (xs : List (Option T)). length (present xs)) (take-set-le (min solid p) cells p None (omega arith))
-      ∙ solid_less cells solid (min solid p) s (omega arith)
-
-  within_some : (cells : List (Option T)) (p : ℕ) → is_some (get_or cells p None) ≡ true → p < length cells
-  within_some [] p h = absurd (true≢false (sym h))
-  within_some (c ∷ cells) zero h = omega arith
-  within_some (c ∷ cells) (suc p) h = let rest = within_some cells p h in omega (arith, rest)
-
-  pub place_solid : (cells : List (Option T)) (solid i : ℕ) → IsSolid cells solid → i < solid → IsPlace cells i i
-  place_solid cells solid i s l =
-      let r = solid_at cells solid i s l in
-      record { before = r.0; within = within_some cells i r.1; there = r.1 }
 
   -- so many items more before the next place
   pub count_item : (cells : List (Option T)) (p : ℕ) → p < length cells → is_some (get_or cells p None) ≡ true
@@ -537,11 +494,11 @@ module _ {T : Type 0} where
   pub walk_taken : (old new : List (Option T)) (w p : ℕ) → w ≤ length old → new ≡ set old p None → w ≤ length new
   walk_taken old new w p l is = omega (arith, l, ap length is, length-set old p None)
 
-  pub walk_moved : (mid new : List (Option T)) (v p : ℕ) (o : T) → v ≤ length mid → new ≡ set mid p None ++ Some o ∷ [] → v ≤ length new
-  walk_moved mid new v p o l is = omega (arith, l, ap length is, length_push (set mid p None) (Some o), length-set mid p None)
-
-  pub walk_pushed : (mid new : List (Option T)) (v : ℕ) (o : T) → v ≤ length mid → new ≡ mid ++ Some o ∷ [] → v ≤ length new
-  walk_pushed mid new v o l is = omega (arith, l, ap length is, length_push mid (Some o))
+  -- the item at this index stands at this place
+  pub record IsPlace (cells : List (Option T)) (i p : ℕ) : Type 0 where
+    pub before : length (present (take p cells)) ≡ i
+    pub within : p < length cells
+    pub there : is_some (get_or cells p None) ≡ true
 
   -- the item at the place that a walk comes to
   pub next_placed : (cells : List (Option T)) (w p : ℕ) → present (take p cells) ≡ present (take w cells) → p ≤ length cells

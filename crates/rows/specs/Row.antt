@@ -1,5 +1,5 @@
 -- What a row of items is seen as.
-use Rattle.std.specs.Prelude.{◌≡◌, ℕ, All, Contains, ◌+◌, ◌*◌, ◌<◌, ◌≤◌, Bool, true, not, List, [], ◌∷◌, ◌++◌, None, Some, is_some, length, get_or, take, filter, find, option_to_list}
+use Rattle.std.specs.Prelude.{◌≡◌, ℕ, All, Contains, ◌+◌, ◌*◌, ◌≤◌, Bool, not, List, [], ◌∷◌, ◌++◌, None, Some, length, take, filter, find, option_to_list}
 use Rattle.std.specs.declared.option.Option.{Option}
 use Rattle.rows.specs.Cells.{CellsSeen, present}
 
@@ -25,22 +25,12 @@ module _ {T : Type 0} where
   IsTakenOut (Some item) old new = (before : List T) × ((behind : List T)
       × ((old ≡ before ++ item ∷ behind) × (new ≡ before ++ behind)))
 
-  -- so many places from the first on all have items
-  abbrev pub IsSolid : List (Option T) → ℕ → Type 0
-  IsSolid cells solid = length (present (take solid cells)) ≡ solid
-
-  -- the item at this index stands at this place
-  pub record IsPlace (cells : List (Option T)) (i p : ℕ) : Type 0 where
-    pub before : length (present (take p cells)) ≡ i
-    pub within : p < length cells
-    pub there : is_some (get_or cells p None) ≡ true
-
   -- a row's places: as many items as are counted, none before its front, room for the items that are promised, and
-  -- twice as many places as there are items and reserved places, and so many from the first on that have items
-  pub record IsRow (seen : CellsSeen T) (count front spare solid : ℕ) : Type 0 where
+  -- twice as many places as there are items and reserved places; a walk is within them
+  pub record IsRow (seen : CellsSeen T) (count front spare walk : ℕ) : Type 0 where
     pub count_is : count ≡ length (present seen.cells)
     pub gone : present (take front seen.cells) ≡ []
     pub within : front ≤ length seen.cells
     pub at_hand : spare ≤ seen.spare
     pub places : 2 * (count + spare) ≤ seen.room + length seen.cells
-    pub solid_is : IsSolid seen.cells solid
+    pub walked : walk ≤ length seen.cells

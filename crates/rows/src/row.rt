@@ -3,7 +3,7 @@
 ghost use Rattle.std.specs.Prelude.{◌≡◌, ◌+◌, ◌-◌, ◌*◌, ◌<◌, ◌≤◌, ◌^◌, [], ◌∷◌, ◌++◌, true, not, None, Some, is_some, max, length, get_or, set, take, remove, slice_get, option_map, option_to_list, find, filter, IfSome, IfNone, IsOk, OnOk, OnErr};
 ghost use Rattle.rows.specs.Cells.{present};
 ghost use Rattle.std.specs.Prelude.{All, Contains};
-ghost use Rattle.rows.specs.Row.{moved, ArePassed, IsPlace, IsSolid, IsTakenOut};
+ghost use Rattle.rows.specs.Row.{moved, ArePassed, IsTakenOut};
 
 use crate::cells::Cells;
 use indexmap::Equivalent;
@@ -21,12 +21,11 @@ pub struct Row<T: Eq + Hash + Drop> {
     count: usize,
     front: usize,
     spare: usize,
-    solid: usize,
     walk: usize,
 }
 
 impl<T: Eq + Hash + Drop> Model for Row<T> {
-    ghost use Rattle.std.specs.Prelude.{◌≤◌, length, take};
+    ghost use Rattle.std.specs.Prelude.{length, take};
     ghost use Rattle.rows.specs.Cells.{present};
     ghost use Rattle.rows.specs.Row.{RowSeen, IsRow};
 
@@ -38,7 +37,7 @@ impl<T: Eq + Hash + Drop> Model for Row<T> {
       passed = length (present (take r.walk r.cells.cells));
     } };
 
-    ghost invariant = { λ r. IsRow r.cells r.count r.front r.spare r.solid × (r.walk ≤ length r.cells.cells) };
+    ghost invariant = { λ r. IsRow r.cells r.count r.front r.spare r.walk };
 }
 
 impl<T: Eq + Hash + Drop> Row<T> {
@@ -51,7 +50,6 @@ impl<T: Eq + Hash + Drop> Row<T> {
             count: 0,
             front: 0,
             spare: 0,
-            solid: 0,
             walk: 0,
         }
     }
@@ -120,7 +118,6 @@ impl<T: Eq + Hash + Drop> Row<T> {
         } }
         ensures passed { ArePassed self.old self.new }
     {
-        self.solid = 0;
         make_room(&mut self.cells, &mut self.front, &mut self.walk);
         self.cells.push(item);
         self.count += 1;
@@ -142,7 +139,6 @@ impl<T: Eq + Hash + Drop> Row<T> {
         };
         let taken = self.cells.take(p);
         self.count -= 1;
-        self.solid = 0;
         self.front = first_place(&self.cells, self.front);
         taken
     }
@@ -157,7 +153,6 @@ impl<T: Eq + Hash + Drop> Row<T> {
         ensures one { IsTakenOut (find (Q.equivalent query) self.old.items) self.old.items
             (filter (λ o. not (Q.equivalent query o)) self.old.items) }
     {
-        self.solid = 0;
         make_room(&mut self.cells, &mut self.front, &mut self.walk);
         let Some(p) = self.cells.place_of(query) else {
             return;
@@ -191,52 +186,8 @@ impl<T: Eq + Hash + Drop> Row<T> {
         }
         let taken = self.cells.take(p);
         self.count -= 1;
-        self.solid = 0;
         self.front = p;
         taken
-    }
-
-    /// Takes the gaps away that items which are taken out or moved leave between the others, so that `at` and `take_out`
-    /// take constant time until an item is pushed, touched or found and taken: `at` at the indexes up to the least at
-    /// which one was taken out since, and `take_out` below it. A walk begins anew.
-    pub fn close_up(&mut self)
-        ensures { self.new ≡ record self.old { passed = 0 } }
-    {
-        squeeze(&mut self.cells);
-        self.walk = 0;
-        self.front = 0;
-        self.solid = self.count;
-    }
-
-    /// The item at an index. It takes constant time as `close_up` says, and else goes through the places.
-    pub fn at(&self, i: usize) -> &T
-        requires { i < length self.now.items }
-        ensures { slice_get self.now.items i ≡ Some result.now }
-    {
-        let p = place_of_index(&self.cells, self.solid, i);
-        match self.cells.get(p) {
-            Some(item) => item,
-            None => unreachable!(),
-        }
-    }
-
-    /// Takes out the item at an index; the others keep their order, and a walk begins anew. It takes no memory, and
-    /// constant time as `close_up` says, and else goes through the places.
-    pub fn take_out(&mut self, i: usize) -> T
-        requires { i < length self.old.items }
-        ensures out { slice_get self.old.items i ≡ Some result }
-        ensures after { self.new ≡ record self.old { items = remove self.old.items i; passed = 0 } }
-    {
-        self.walk = 0;
-        let p = place_of_index(&self.cells, self.solid, i);
-        let taken = self.cells.take(p);
-        self.count -= 1;
-        self.solid = self.solid.min(p);
-        self.front = first_place(&self.cells, self.front);
-        match taken {
-            Some(item) => item,
-            None => unreachable!(),
-        }
     }
 
     /// The item that a walk comes to next.
@@ -268,7 +219,6 @@ impl<T: Eq + Hash + Drop> Row<T> {
         let p = next_place(&self.cells, self.walk);
         let taken = self.cells.take(p);
         self.count -= 1;
-        self.solid = 0;
         self.walk = next_place(&self.cells, p);
         self.front = first_place(&self.cells, self.front);
         match taken {
@@ -317,35 +267,6 @@ fn next_place<T: Eq + Hash + Drop>(cells: &Cells<T>, from: usize) -> usize
         }
     }
     cells.len()
-}
-
-// the place of the item at an index, where so many places from the first on have items
-fn place_of_index<T: Eq + Hash + Drop>(cells: &Cells<T>, solid: usize, i: usize) -> usize
-    requires solid { IsSolid cells.now.cells solid }
-    requires within { i < length (present cells.now.cells) }
-    ensures { IsPlace cells.now.cells i result }
-{
-    if i < solid {
-        return i;
-    }
-    place_by_count(cells, i)
-}
-
-// the place of the item at an index, by counting
-fn place_by_count<T: Eq + Hash + Drop>(cells: &Cells<T>, i: usize) -> usize
-    requires { i < length (present cells.now.cells) }
-    ensures { IsPlace cells.now.cells i result }
-{
-    let mut left = i;
-    'places: for place in 0..cells.len() {
-        if cells.has(place) {
-            if left == 0 {
-                return place;
-            }
-            left -= 1;
-        }
-    }
-    unreachable!()
 }
 
 // closes the log up where there is no room for a place, and a walk begins anew then

@@ -114,15 +114,6 @@ fn take_of(list: &mut Vec<u64>, number: u64) -> Option<u64> {
     Some(list.remove(place))
 }
 
-// takes what stands at an index out of both, where there is one, and whether it was the same
-fn has_taken_out(row: &mut Row<u64>, list: &mut Vec<u64>, index: usize) -> bool {
-    if index >= row.len() || index >= list.len() {
-        return true;
-    }
-    let number = *row.at(index);
-    row.take_out(index) == number && list.remove(index) == number
-}
-
 // one random call on both, and whether they answer the same
 fn agree(
     alloc: Global,
@@ -145,10 +136,13 @@ fn agree(
             Ok(true)
         }
         11 => {
-            row.close_up();
+            row.walk_anew();
             Ok(true)
         }
-        12..14 => Ok(has_taken_out(row, list, (number / 2) as usize)),
+        12..14 => {
+            pass(row);
+            Ok(true)
+        }
         14 => {
             let first = if list.is_empty() {
                 None

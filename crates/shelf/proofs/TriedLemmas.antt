@@ -1,6 +1,6 @@
 -- Which objects a walk has tried.
-use Rattle.std.proofs.Common.{◌≡◌, ℕ, zero, suc, ◌+◌, ◌-◌, ◌<◌, ◌≤◌, max, All, Contains, Bool, true, false, cond, not, nat_lt, List, [], ◌∷◌, ◌++◌, length, map, take, remove, slice_get, get_or, None, Some, refl, sym, ap, subst, ◌∙◌, ◌||◌, ◌&&◌, arith, inl, inr}
-use Rattle.std.specs.List.{filter, list_any}
+use Rattle.std.proofs.Common.{◌≡◌, ℕ, zero, suc, ◌+◌, ◌≤◌, max, All, Contains, Bool, true, false, cond, not, nat_lt, List, [], ◌∷◌, ◌++◌, length, map, take, remove, slice_get, None, Some, refl, sym, ap, subst, ◌∙◌, ◌||◌, ◌&&◌, arith, inl, inr}
+use Rattle.std.specs.List.{filter}
 use Rattle.std.specs.declared.option.Option.{Option}
 use Rattle.std.proofs.lemmas.Bool.{both_ways, cases_Bool, cases_lt, lt-ltb, ltb-true, or_from, or_parts}
 use Rattle.std.proofs.lemmas.List.{take_all, take_more}

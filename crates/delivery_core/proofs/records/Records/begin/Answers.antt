@@ -11,8 +11,8 @@ invariant_of-self c =
     let room = i.0 in
     let few = i.2 in
     let spare = c.requires.spare in (
-      rw (c.push.ensures, length-append) (omega (arith, room, spare, ap (λ r. r.spare) c.self.view_is)),
-      rw c.push.ensures (up_to_push _ _ _ _ i.1 (omega arith) (omega arith)),
-      rw (c.push.ensures, length-append) (omega arith),
+      rw (c.push.ensures.after, length-append) (omega (arith, room, spare, ap (λ r. r.spare) c.self.view_is)),
+      rw c.push.ensures.after (up_to_push _ _ _ _ i.1 (omega arith) (omega arith)),
+      rw (c.push.ensures.after, length-append) (omega arith),
       i.3,
     )

@@ -9,7 +9,7 @@ push-requires-clause-absent c = rw c.in_ok-reserve.ensures.places (none_named _ 
 pub invariant_of-self-2 : goal.invariant_of-self-2
 invariant_of-self-2 c =
     let i = c.self.invariant in (
-      rw (c.push.ensures, c.in_ok-reserve.ensures.places) (between_push _ _ _ _ i.0 (omega (arith, c.stored.ensures))),
-      rw (c.push.ensures, c.in_ok-reserve.ensures.places) (up_to_push _ _ _ _ i.1 (omega arith) (omega arith)),
+      rw (c.push.ensures.after, c.in_ok-reserve.ensures.places) (between_push _ _ _ _ i.0 (omega (arith, c.stored.ensures))),
+      rw (c.push.ensures.after, c.in_ok-reserve.ensures.places) (up_to_push _ _ _ _ i.1 (omega arith) (omega arith)),
       i.2,
     )

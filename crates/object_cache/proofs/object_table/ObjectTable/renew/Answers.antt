@@ -1,4 +1,4 @@
-use Rattle.std.proofs.Common.{[], take, sym, ap, ◌∙◌}
+use Rattle.std.proofs.Common.{take, sym, ap, ◌∙◌}
 use Rattle.std.proofs.lemmas.List.Elements.{All-contains_itself}
 use Rattle.rows.specs.Row.{RowSeen}
 use Rattle.object_cache.specs.declared.object.Object.{Object}

@@ -1,7 +1,7 @@
-use Rattle.std.proofs.Common.{◌<◌, ◌++◌, ◌∷◌, ◌-◌, [], List, find, length, take, refl, sym, ap, subst, ◌∙◌}
+use Rattle.std.proofs.Common.{◌<◌, ◌++◌, ◌∷◌, ◌-◌, [], List, find, length, take, sym, ap, subst, ◌∙◌}
 use Rattle.rows.specs.Cells.{present}
 use Rattle.rows.specs.Row.{RowSeen, ArePassed}
-use Rattle.rows.proofs.RowLemmas.{passed_pushed, seen, walk_pushed, none_there, row_roomed, row_pushed, present_pushed}
+use Rattle.rows.proofs.RowLemmas.{passed_pushed, seen, none_there, row_roomed, row_pushed, present_pushed}
 use Rattle.rows.proofs.row.Row.push.Goals as goal
 
 pub push-requires-clause-absent : goal.push-requires-clause-absent
@@ -14,12 +14,10 @@ pub invariant_of-self : goal.invariant_of-self
 invariant_of-self g c =
     let i = c.self.inside in
     let m = c.make_room in
-    let some = subst (λ (v : RowSeen g.row.T.Denot). 0 < v.spare) (sym c.self.view_is) c.requires.spare in (
-      row_pushed m.new.cells c.push.new.self i.count m.new.front i.spare c.args.item
-          (row_roomed i.cells m.new.cells i.count i.front i.spare i.solid m.new.front 0 c.self.invariant.0 m.ensures.items m.ensures.gone m.ensures.within
-          m.ensures.spare m.ensures.total refl) some c.push.ensures.cells c.push.ensures.spare c.push.ensures.room,
-      walk_pushed m.new.cells.cells c.push.new.self.cells m.new.walk c.args.item m.ensures.walk c.push.ensures.cells,
-    )
+    let some = subst (λ (v : RowSeen g.row.T.Denot). 0 < v.spare) (sym c.self.view_is) c.requires.spare in
+    row_pushed m.new.cells c.push.new.self i.count m.new.front i.spare m.new.walk c.args.item
+    (row_roomed i.cells m.new.cells i.count i.front i.spare i.walk m.new.front m.new.walk c.self.invariant m.ensures.items m.ensures.gone m.ensures.within
+    m.ensures.spare m.ensures.total m.ensures.walk) some c.push.ensures.cells c.push.ensures.spare c.push.ensures.room
 
 pub returns-clause-passed : goal.returns-clause-passed
 returns-clause-passed g c =

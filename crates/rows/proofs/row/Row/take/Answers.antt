@@ -1,4 +1,4 @@
-use Rattle.std.proofs.Common.{List, Option, Some, length, not, filter, find, take, refl, sym, ap, subst, ◌∙◌}
+use Rattle.std.proofs.Common.{List, Option, Some, length, not, filter, find, take, sym, ap, subst, ◌∙◌}
 use Rattle.rows.specs.Cells.{present}
 use Rattle.rows.specs.Row.{RowSeen, ArePassed, IsTakenOut}
 use Rattle.rows.proofs.RowLemmas.{passed_taken, seen, seen_same, walk_taken, one_find, none_found, some_counted, gone_set, row_taken, taken_out}
@@ -26,23 +26,22 @@ pub overflow_sub-self : goal.overflow_sub-self
 overflow_sub-self g c =
     let i = c.self.inside in
     let f = c.in-Some.ensures.found in
-    some_counted i.cells i.count i.front i.spare i.solid c.in-Some.p f.0 c.self.invariant.0 f.1
+    some_counted i.cells i.count i.front i.spare i.walk c.in-Some.p f.0 c.self.invariant f.1
 
 pub first_place-self-inside-requires-clause-gone : goal.first_place-self-inside-requires-clause-gone
 first_place-self-inside-requires-clause-gone g c =
     let i = c.self.inside in
     ap (λ (xs : List (Option g.row.T.Denot)). present (take i.front xs)) c.take-taken.ensures.cells
-    ∙ gone_set i.cells.cells i.front c.in-Some.p c.self.invariant.0.gone
+    ∙ gone_set i.cells.cells i.front c.in-Some.p c.self.invariant.gone
 
 pub invariant_of-self : goal.invariant_of-self
 invariant_of-self g c =
     let i = c.self.inside in
-    let f = c.in-Some.ensures.found in (
-      row_taken i.cells c.take-taken.new.self i.count i.front i.spare i.solid c.first_place-self-inside.result c.in-Some.p 0 f.0 c.self.invariant.0 f.1
-          c.take-taken.ensures.cells c.take-taken.ensures.spare c.take-taken.ensures.room
-          c.first_place-self-inside.ensures.gone c.first_place-self-inside.ensures.within refl,
-      walk_taken i.cells.cells c.take-taken.new.self.cells i.walk c.in-Some.p c.self.invariant.1 c.take-taken.ensures.cells,
-    )
+    let f = c.in-Some.ensures.found in
+    row_taken i.cells c.take-taken.new.self i.count i.front i.spare i.walk c.first_place-self-inside.result c.in-Some.p i.walk f.0 c.self.invariant f.1
+    c.take-taken.ensures.cells c.take-taken.ensures.spare c.take-taken.ensures.room
+    c.first_place-self-inside.ensures.gone c.first_place-self-inside.ensures.within
+    (walk_taken i.cells.cells c.take-taken.new.self.cells i.walk c.in-Some.p c.self.invariant.walked c.take-taken.ensures.cells)
 
 pub returns-clause-found : goal.returns-clause-found
 returns-clause-found g c =

@@ -1,4 +1,4 @@
-use Rattle.std.proofs.Common.{List, Option, length, remove, slice_get, take, refl, sym, ap, ◌∙◌}
+use Rattle.std.proofs.Common.{List, Option, length, remove, slice_get, take, sym, ap, ◌∙◌}
 use Rattle.rows.specs.Cells.{present}
 use Rattle.rows.specs.Row.{RowSeen}
 use Rattle.rows.proofs.RowLemmas.{gone_set, index_placed, row_taken, seen, taken_before}
@@ -8,17 +8,16 @@ pub first_place-self-inside-requires-clause-gone : goal.first_place-self-inside-
 first_place-self-inside-requires-clause-gone g c =
     let i = c.self.inside in
     ap (λ (xs : List (Option g.row.T.Denot)). present (take i.front xs)) c.take-taken.ensures.cells
-    ∙ gone_set i.cells.cells i.front c.next_place-p.result c.self.invariant.0.gone
+    ∙ gone_set i.cells.cells i.front c.next_place-p.result c.self.invariant.gone
 
 pub invariant_of-self : goal.invariant_of-self
 invariant_of-self g c =
     let i = c.self.inside in
-    let now = c.take-taken.new.self in (
-      row_taken i.cells now i.count i.front i.spare i.solid c.first_place-self-inside.result c.next_place-p.result 0 c.in-Some.item c.self.invariant.0
-          (sym c.take-taken.ensures.taken ∙ c.in-Some.is) c.take-taken.ensures.cells c.take-taken.ensures.spare c.take-taken.ensures.room
-          c.first_place-self-inside.ensures.gone c.first_place-self-inside.ensures.within refl,
-      c.next_place-self-inside.ensures.within,
-    )
+    let now = c.take-taken.new.self in
+    row_taken i.cells now i.count i.front i.spare i.walk c.first_place-self-inside.result c.next_place-p.result c.next_place-self-inside.result c.in-Some.item c.self.invariant
+    (sym c.take-taken.ensures.taken ∙ c.in-Some.is) c.take-taken.ensures.cells c.take-taken.ensures.spare c.take-taken.ensures.room
+    c.first_place-self-inside.ensures.gone c.first_place-self-inside.ensures.within
+    c.next_place-self-inside.ensures.within
 
 pub returns-clause-out : goal.returns-clause-out
 returns-clause-out g c =

@@ -1,8 +1,8 @@
-use Rattle.std.proofs.Common.{List, Option, None, Some, not, filter, find, take, set, length, length-set, arith, refl, ap, subst, ◌∙◌}
+use Rattle.std.proofs.Common.{List, Option, None, Some, not, filter, find, take, set, length, length-set, arith, ap, subst, ◌∙◌}
 use Rattle.std.proofs.lemmas.List.{length_push}
 use Rattle.rows.specs.Cells.{present}
 use Rattle.rows.specs.Row.{RowSeen, ArePassed, moved, IsTakenOut}
-use Rattle.rows.proofs.RowLemmas.{passed_moved, seen, seen_before, walk_moved, row_roomed, row_moved, gone_moved, moved_none, moved_one, out_none, out_one}
+use Rattle.rows.proofs.RowLemmas.{passed_moved, seen, seen_before, row_roomed, row_moved, gone_moved, moved_none, moved_one, out_none, out_one}
 use Rattle.rows.proofs.row.Row.touch.Goals as goal
 
 pub returns-in_default-clause-after : goal.returns-in_default-clause-after
@@ -51,13 +51,11 @@ pub invariant_of-self-2 : goal.invariant_of-self-2
 invariant_of-self-2 g c =
     let i = c.self.inside in
     let m = c.make_room in
-    let f = c.in-Some.ensures.found in (
-      row_moved m.new.cells c.move_to_end.new.cells i.count m.new.front i.spare c.first_place-self-inside.result c.in-Some.p f.0
-          (row_roomed i.cells m.new.cells i.count i.front i.spare i.solid m.new.front 0 c.self.invariant.0 m.ensures.items m.ensures.gone m.ensures.within
-          m.ensures.spare m.ensures.total refl) f.1 (c.move_to_end.ensures.moved f.0 f.1) c.move_to_end.ensures.spare c.move_to_end.ensures.room
-          c.first_place-self-inside.ensures.gone c.first_place-self-inside.ensures.within,
-      walk_moved m.new.cells.cells c.move_to_end.new.cells.cells m.new.walk c.in-Some.p f.0 m.ensures.walk (c.move_to_end.ensures.moved f.0 f.1),
-    )
+    let f = c.in-Some.ensures.found in
+    row_moved m.new.cells c.move_to_end.new.cells i.count m.new.front i.spare m.new.walk c.first_place-self-inside.result c.in-Some.p f.0
+    (row_roomed i.cells m.new.cells i.count i.front i.spare i.walk m.new.front m.new.walk c.self.invariant m.ensures.items m.ensures.gone m.ensures.within
+    m.ensures.spare m.ensures.total m.ensures.walk) f.1 (c.move_to_end.ensures.moved f.0 f.1) c.move_to_end.ensures.spare c.move_to_end.ensures.room
+    c.first_place-self-inside.ensures.gone c.first_place-self-inside.ensures.within
 
 pub returns-clause-passed : goal.returns-clause-passed
 returns-clause-passed g c =

@@ -21,7 +21,10 @@ use trigger_command::Selection;
 use upstream_gate::{Got, Outcome};
 
 // how often an object is tried with a start in one call, while some are to be tried
-const TRIALS: u64 = 16;
+const TRIALS: u64 = 8;
+
+// how many objects are tried at least where a fetch begins: a walk ends, though what is used goes behind it
+const LEAST: u64 = 2;
 
 /// An open fetch as it is seen: what it fetches, and whether a start has hit that since it was opened.
 #[derive(Drop)]
@@ -129,7 +132,7 @@ impl Shelf {
         ensures err { OnErr result (self.new ≡ self.old) }
     {
         let fetch = self.open_without(alloc, pass, fetching)?;
-        self.sweep_some();
+        self.sweep_some(LEAST);
         Ok(fetch)
     }
 
@@ -209,7 +212,7 @@ impl Shelf {
     }
 
     /// What is kept under the key was used: it goes to the end, and no start so far is tried on it again. Where all were
-    /// tried already, it takes no memory. A few other objects are tried with the starts.
+    /// tried already, it takes no memory. Where few starts are left, a few other objects are tried with the starts.
     ///
     /// # Errors
     /// Want of memory. Nothing has changed then.
@@ -223,7 +226,7 @@ impl Shelf {
         ensures err { OnErr result (self.new ≡ self.old) }
     {
         self.renew_one(alloc, key)?;
-        self.sweep_some();
+        self.sweep_some(0);
         Ok(())
     }
 
@@ -263,8 +266,8 @@ impl Shelf {
         Ok(())
     }
 
-    // a few objects are tried with the starts since the last sweep; what they have hit leaves
-    fn sweep_some(&mut self)
+    // a few objects, so many at least, are tried with the starts since the last sweep; what they have hit leaves
+    fn sweep_some(&mut self, least: u64)
         ensures after { self.new ≡ record self.old { held = self.new.held } }
         ensures held { IsPartOf self.new.held self.old.held }
     {
@@ -274,6 +277,7 @@ impl Shelf {
                 &self.epochs,
                 &mut self.noted,
                 &mut self.aimed,
+                least,
             );
             settle(&mut self.epochs, &self.table, self.noted, &self.flights);
         }
@@ -513,7 +517,13 @@ fn sweep(table: &mut ObjectTable, epochs: &Epochs, noted: &mut u64, aimed: &mut 
 }
 
 // tries a few objects with the starts, and notes where all were tried with those up to one
-fn sweep_portion(table: &mut ObjectTable, epochs: &Epochs, noted: &mut u64, aimed: &mut u64)
+fn sweep_portion(
+    table: &mut ObjectTable,
+    epochs: &Epochs,
+    noted: &mut u64,
+    aimed: &mut u64,
+    least: u64,
+)
     requires behind { noted.old < epochs.now.known.newest }
     requires aim { (noted.old ≤ aimed.old) × (aimed.old ≤ epochs.now.known.newest) }
     requires tried { AreTried epochs.now.known.starts noted.old aimed.old (take table.old.passed table.old.objects) }
@@ -527,8 +537,7 @@ fn sweep_portion(table: &mut ObjectTable, epochs: &Epochs, noted: &mut u64, aime
     ensures spare { table.new.spare ≡ table.old.spare }
 {
     walk_if(table, epochs, *noted, aimed, *aimed == *noted);
-    // two at least, so that the walk ends though each call moves an object behind it
-    let portion = (TRIALS / (epochs.newest() - *noted)).max(2);
+    let portion = (TRIALS / (epochs.newest() - *noted)).max(least);
     try_some(table, epochs, *noted, portion);
     note_if_tried(table, epochs, noted, *aimed);
 }

@@ -2,8 +2,10 @@
 # Instructions of an invalidate in `cdnid replay`, counted under callgrind: its command, start and end, by a URL,
 # by a pattern and by a ccid, each of which hits one object, over 100, 10,000 and 100,000 kept objects; and those of
 # 1,000 hits after it. A start looks at no kept object. Then those of 1,000 hits of one object after 1,000 starts by patterns, which
-# the first of them tries, beside those of 1,000 hits without such starts. It ends with status 1 where an invalidate over the most objects
-# takes more than 1.1 times what it takes over the fewest, or the hits after the starts more than 1.1 times the others.
+# the first of them tries, beside those of 1,000 hits without such starts. Last the milliseconds of the end of a fetch behind an invalidate by a
+# pattern over 1,000,000 objects, directly and with 200,000 hits between them. It ends with status 1 where an invalidate over the most objects
+# takes more than 1.1 times what it takes over the fewest, the hits after the starts more than 1.1 times the others, or the last end of a fetch
+# more than 10 milliseconds.
 # Usage: bench/triggers.sh [OBJECTS..]   (needs valgrind; builds the program by `rt run` where it is not built; 100,000
 # objects take some ten minutes)
 set -eu
@@ -130,4 +132,5 @@ started=$(thousand_hits "$room/started")
 answered 1020 'final complete'
 echo "1,000 hits of one object: $plain instructions, and $started after 1,000 starts by patterns"
 at_most "1,000 hits after 1,000 starts by patterns" "$started" "$plain"
+python3 bench/sweep.py "$program" 1000000 200000 || missed=1
 exit "$missed"

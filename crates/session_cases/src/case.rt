@@ -128,6 +128,8 @@ fn home_of(alloc: Global, case: &Value) -> anyhow::Result<TellingHome<OneHome>> 
         tells: case.get("silent").is_none(),
         lines: Vec::new(alloc),
         is_whole: true,
+        begun: 0,
+        finished: 0,
     })
 }
 
@@ -223,6 +225,9 @@ pub fn differs<R: Threads + Wait + Sync>(
         if place.is_some() {
             return Ok(place);
         }
+    }
+    if case.get("refusing").is_some() && home.begun != home.finished {
+        return Ok(Some("an open delivery"));
     }
     if cuts_otherwise(rt, alloc, &mut home, case)? {
         return Ok(Some("the log file"));

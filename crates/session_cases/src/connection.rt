@@ -89,6 +89,9 @@ pub fn differs<R: Threads + Wait + Sync>(
     if !home.is_whole || !gate.is_whole {
         bail!("no memory");
     }
+    if ending == Ending::Memory && value.get("refusing").is_some() {
+        return Ok(None);
+    }
     if !is_ending(value, ending)? {
         return Ok(Some("an ending"));
     }

@@ -1,7 +1,8 @@
 //! Runs connections over memory and compares what passes with what is to pass. Each line of the standard input is a case:
 //! a JSON object with a node, what its gate and its clock give, and connections that are served one after the other, each
 //! with what it reads and with the bytes, calls, asks and ending that are to come of it. A text of the case has a character
-//! below U+0100 for each byte. In a case with `silent` no call is written down. A line is printed for each case that differs,
+//! below U+0100 for each byte. In a case with `silent` no call is written down; in one with `refusing`,
+//! which may end for want of memory, each delivery that began is to be finished. A line is printed for each case that differs,
 //! and last how many there were.
 #![tactic(auto)]
 

@@ -1,4 +1,4 @@
-//! A home and a gate that write down what is called and asked.
+//! A home and a gate that write down what is called and asked, and count the deliveries that begin and end.
 
 use crate::told::{put_ask, put_call, put_reply};
 use history::{Call, Reply};
@@ -8,13 +8,32 @@ use std::sync::Wait;
 use std::thread::Threads;
 use upstream_gate::{Ask, Gate, Outcome};
 
-/// A home that writes its calls with their replies down, a line for each, where it tells.
+/// A home that writes its calls with their replies down, a line for each, where it tells, and else counts the deliveries that
+/// began and those that were finished.
 #[derive(Drop)]
 pub struct TellingHome<H: Home> {
     pub home: H,
     pub tells: bool,
     pub lines: Vec<u8>,
     pub is_whole: bool,
+    pub begun: u64,
+    pub finished: u64,
+}
+
+// how many deliveries this reply begins
+fn begun_by(reply: &Reply) -> u64 {
+    match reply {
+        Reply::Denied { .. } | Reply::Hit { .. } | Reply::Miss { .. } => 1,
+        _ => 0,
+    }
+}
+
+// how many deliveries this reply finishes
+fn finished_by(reply: &Reply) -> u64 {
+    match reply {
+        Reply::Logged { .. } => 1,
+        _ => 0,
+    }
 }
 
 impl<H: Home> Home for TellingHome<H> {
@@ -35,7 +54,10 @@ impl<H: Home> Home for TellingHome<H> {
         call: Call,
     ) -> Result<Reply, AllocError> {
         if !self.tells {
-            return self.home.call(rt, alloc, call);
+            let reply = self.home.call(rt, alloc, call)?;
+            self.begun = self.begun.wrapping_add(begun_by(&reply));
+            self.finished = self.finished.wrapping_add(finished_by(&reply));
+            return Ok(reply);
         }
         if put_call(alloc, &mut self.lines, &call).is_err() {
             self.is_whole = false;

@@ -202,8 +202,8 @@ impl<W: Wait + Clock + Drop> SocketSource<W> {
         Moved::Failed
     }
 
-    // reads more of the next head; `Later` where the run is to end. Only where nothing of it came is it read without
-    // looking at the time and at the others.
+    // reads more of the next head; `Later` where the run is to end. Only where nothing of it came, and no other connection
+    // waits for a worker, is it read without looking at the time and at the others.
     fn more(&mut self) -> Moved
         ensures faults { self.new.faults ≡ self.old.faults }
     {
@@ -214,8 +214,11 @@ impl<W: Wait + Clock + Drop> SocketSource<W> {
             self.run = Run::Yielded;
             return Moved::Later;
         }
-        let soon = !self.hub.is_crowded();
-        match self.room.fill(&self.link.stream, soon) {
+        // under load the client has hardly read its answer, and others wait: one look at both is enough
+        if self.hub.is_crowded() {
+            return self.wait_for_more();
+        }
+        match self.room.fill(&self.link.stream, true) {
             Moved::Later => self.wait_for_more(),
             got => got,
         }

@@ -56,15 +56,14 @@ fn portions(alloc: Global, text: &str) -> anyhow::Result<Vec<u64>> {
 }
 
 // prints how a command ended
-fn print_ended<R: Print>(
-    rt: &R,
-    alloc: Global,
-    name: &str,
-    ended: &Ended,
-) -> anyhow::Result<()> {
+fn print_ended<R: Print>(rt: &R, alloc: Global, name: &str, ended: &Ended) -> anyhow::Result<()> {
     let notes = String::from_utf8_lossy(alloc, ended.notes.as_slice())?;
     let output = String::from_utf8_lossy(alloc, ended.output.as_slice())?;
-    println!(rt; "# {name}: status {}, {} bytes", ended.status.number(), ended.output.len())?;
+    println!(rt;
+        "# {name}: status {}, {} bytes",
+        ended.status.number(),
+        ended.output.len()
+    )?;
     print!(rt; "{}{}", notes.as_str(), output.as_str())?;
     if !output.as_str().is_empty() && !output.as_str().ends_with('\n') {
         println!(rt; "")?;

@@ -35,7 +35,7 @@ def keep(paths):
             fetches, deliveries = fetches + 1, deliveries + 1
             lines += [get(path), f"0 2000 got {fetches} 200 text/plain 6162\n", f"0 2000 finish {deliveries} 200 200 2\n"]
         files += 1
-        play(lines + ["0 2000 cut\n", f"0 2000 drop {files}\n"])
+        play(lines + ["0 2000 cut\n", f"0 2000 droplog {files}\n"])
 
 
 def invalidate():
@@ -55,7 +55,7 @@ def hit(count):
             deliveries += 1
             lines += [get(f"films/{number * 7919 % objects:07}"), f"0 2000 finish {deliveries} 200 200 2\n"]
         files += 1
-        _, answers = play(lines + ["0 2000 cut\n", f"0 2000 drop {files}\n"])
+        _, answers = play(lines + ["0 2000 cut\n", f"0 2000 droplog {files}\n"])
         assert answers[0].startswith(b"hit"), answers[0]
 
 

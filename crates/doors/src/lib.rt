@@ -9,8 +9,6 @@ mod memory_door;
 mod memory_outside;
 mod outside;
 mod serve;
-#[cfg(test)]
-mod tests;
 
 pub use address::read_address;
 pub use door::{Accepted, Door};

@@ -5,7 +5,5 @@
 mod chains;
 mod epochs_list;
 pub mod laws;
-#[cfg(test)]
-mod tests;
 
 pub use epochs_list::{Epochs, Start};

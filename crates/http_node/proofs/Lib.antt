@@ -1,4 +1,3 @@
 mod BatchLemmas
 mod GeneratedLemmas
 pub mod ServeLemmas
-pub mod TestLemmas

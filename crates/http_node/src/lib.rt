@@ -6,8 +6,6 @@ mod command;
 mod law;
 mod note;
 mod serve;
-#[cfg(test)]
-mod tests;
 
 pub use batch::batch_main;
 pub use doors::{

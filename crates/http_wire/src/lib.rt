@@ -9,8 +9,6 @@ mod inbox;
 mod limits;
 mod reading;
 mod response;
-#[cfg(test)]
-mod tests;
 
 pub use body::{BodyRead, Framing, body_of, read_length, read_to_end};
 pub use chunked::read_chunked;

@@ -8,8 +8,6 @@ mod gathering;
 mod href;
 mod joining;
 mod link;
-#[cfg(test)]
-mod tests;
 mod tree;
 
 pub use fault::LinkFault;

@@ -3,8 +3,6 @@
 
 mod object;
 mod object_table;
-#[cfg(test)]
-mod tests;
 
 pub use object::Object;
 pub use object_table::ObjectTable;

@@ -4,7 +4,5 @@
 
 mod cells;
 mod row;
-#[cfg(test)]
-mod tests;
 
 pub use row::Row;

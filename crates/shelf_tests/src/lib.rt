@@ -1,7 +1,12 @@
-//! What a shelf keeps and finds, beside a plain program whose starts go through all that is kept and open.
+//! What a shelf keeps and finds, beside a plain program whose starts go through all that is kept and open; and the tests of
+//! the rows and the objects below it.
 #![tactic(auto)]
 
+#[cfg(test)]
+mod objects;
 mod plain_shelf;
+#[cfg(test)]
+mod rows;
 #[cfg(test)]
 mod tests;
 

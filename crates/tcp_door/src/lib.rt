@@ -9,8 +9,6 @@ mod outside;
 mod parked;
 mod place_file;
 mod source;
-#[cfg(test)]
-mod tests;
 
 pub use door::TcpDoor;
 pub use outside::StdOutside;

@@ -8,8 +8,6 @@ mod fault;
 mod reading;
 mod selection;
 mod spec;
-#[cfg(test)]
-mod tests;
 mod trigger_url;
 
 pub use command::{Act, Command, IdList, ProviderIdList};

@@ -5,8 +5,6 @@ mod collection;
 mod items;
 mod job;
 mod resource;
-#[cfg(test)]
-mod tests;
 mod write;
 
 pub use collection::collection_json;

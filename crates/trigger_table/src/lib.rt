@@ -4,8 +4,6 @@
 
 mod state;
 mod step;
-#[cfg(test)]
-mod tests;
 mod triggers;
 
 pub use step::Step;

@@ -6,8 +6,6 @@ mod exchanging;
 mod fields;
 mod final_head;
 mod request;
-#[cfg(test)]
-mod tests;
 
 pub use exchanging::exchange;
 pub use final_head::INTERIM_MAX;

@@ -1,6 +1,6 @@
 // What no clause says: that a connection is served where there is memory.
-use crate::{Connection, ConnectionList, DoorEnd, MemoryDoor, Passage, Worker, serve_door};
 use cdni_base::{Body, Endpoint, Limits, Protocol, ProviderId, Target, Text, TextList, TypeName};
+use doors::{Connection, ConnectionList, DoorEnd, MemoryDoor, Passage, Worker, serve_door};
 use edge_base::{ListClock, MemorySink, MemorySource};
 use location_acl::{Ip, PlaceTable};
 use node_core::{Node, OneHome};

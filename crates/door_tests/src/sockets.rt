@@ -1,6 +1,5 @@
 //! Each adapter over real sockets of this machine, with both ends in one process.
 
-use crate::{StdOutside, TcpDoor, WAITS, Waits};
 use doors::{Accepted, Door, Outside, OutsideFault};
 use edge_base::{Sink, Source, write_counted};
 use http_wire::{BodyRead, Found, Head, HeadRead, Inbox, body_of, read_head};
@@ -14,6 +13,7 @@ use std::test::Fail;
 use std::thread::{Threads, join};
 use std::time::{Clock, Duration};
 use std::{env, fs, io, thread};
+use tcp_door::{StdOutside, TcpDoor, WAITS, Waits};
 
 const OK: &[u8] = b"HTTP/1.1 200 OK\r\nContent-Length: 2\r\n\r\nok";
 

@@ -2,12 +2,12 @@
 ghost use Rattle.std.specs.Prelude.{◌≡◌, [], true, IfOk};
 ghost use Rattle.doors.specs.MemoryOutside.{IsFresh};
 
-use crate::{
+use cdni_base::{Body, TypeName};
+use edge_base::{ListClock, MemorySink, MemorySource, Status};
+use http_node::{
     Connection, ConnectionList, MemoryDoor, MemoryOutside, MemoryWorker, Passage, Worker,
     WorkerList, serve_main,
 };
-use cdni_base::{Body, TypeName};
-use edge_base::{ListClock, MemorySink, MemorySource, Status};
 use location_acl::Ip;
 use std::alloc::Global;
 use std::test::Fail;

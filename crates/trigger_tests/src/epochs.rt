@@ -1,7 +1,7 @@
 //! Starts, and what they take back.
 
-use crate::Epochs;
 use cdni_base::{Endpoint, Ignored, Key, ProviderId, Target, Text, url_key};
+use epochs::Epochs;
 use std::alloc::Global;
 use std::test::Fail;
 use trigger_command::{Act, Command, Selection};

@@ -1,11 +1,11 @@
 //! Texts of resources and collections.
 
-use crate::{Filter, IndexList, Job, JobStatus, collection_json, job_json};
 use cdni_base::{Endpoint, HostName, ProviderId};
 use listing::Listing;
 use std::alloc::{AllocError, Global};
 use std::test::Fail;
 use trigger_command::{Act, Command, IdList, SELECTION_MAX, Spec};
+use trigger_status::{Filter, IndexList, Job, JobStatus, collection_json, job_json};
 
 fn own_id(alloc: Global) -> Result<ProviderId, Fail> {
     Ok(ProviderId::read(alloc, b"AS64496:0")?)

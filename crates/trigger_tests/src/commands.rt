@@ -1,9 +1,9 @@
 //! Commands that are read and refused, and keys that are hit.
 
-use crate::{Act, Command, CommandFault, IdList, Selection, Spec, TriggerKind};
 use cdni_base::{Endpoint, HostName, Ignored, Key, ProviderId, Target, Text, url_key};
 use std::alloc::{AllocError, Global};
 use std::test::Fail;
+use trigger_command::{Act, Command, CommandFault, IdList, Selection, Spec, TriggerKind};
 
 const REFUSED: [(&str, &str); 22] = [
     ("{", "not-json"),

@@ -1,6 +1,6 @@
 // What no clause says: that gathering succeeds where there is memory, and how long texts and chains may be.
-use crate::{LinkFault, gather};
 use cdni_base::{Body, Target, TypeName};
+use metadata_links::{LinkFault, gather};
 use metadata_objects::{MetaFault, Tree};
 use std::alloc::Global;
 use std::test::Fail;

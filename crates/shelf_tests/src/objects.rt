@@ -1,6 +1,6 @@
 // What no clause says: that the calls succeed.
-use crate::{Object, ObjectTable};
 use cdni_base::{Body, Ignored, Key, Target, TypeName, url_key};
+use object_cache::{Object, ObjectTable};
 use std::alloc::Global;
 use std::test::Fail;
 

@@ -1,5 +1,5 @@
-use Rattle.http_node.proofs.TestLemmas.{is_fresh}
-use Rattle.http_node.proofs.tests.worker.Goals as goal
+use Rattle.door_tests.proofs.TestLemmas.{is_fresh}
+use Rattle.door_tests.proofs.commands.worker.Goals as goal
 
 pub returns : goal.returns
 returns c =

@@ -6,8 +6,8 @@ ghost use Rattle.std.specs.Cmp.{nat_eq_equiv, on_equiv, on_per, partial_equiv_fr
 ghost use Rattle.std.specs.Hash as fed;
 ghost use Rattle.std.proofs.Common.{rules};
 
-use crate::Row;
 use indexmap::Equivalent;
+use rows::Row;
 use std::alloc::{AllocError, Global};
 use std::hash::{Hash, Hasher};
 use std::test::Fail;

@@ -1,8 +1,8 @@
 // What no clause says: that reading succeeds where there is memory, on messages written out in full.
-use crate::{
+use edge_base::MemorySource;
+use http_wire::{
     BodyRead, HeadRead, Inbox, body_of, read_chunked, read_head, read_response_head, read_to_end,
 };
-use edge_base::MemorySource;
 use std::alloc::Global;
 use std::test::Fail;
 

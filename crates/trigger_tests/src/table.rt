@@ -1,12 +1,12 @@
 //! What a trigger goes through, from its command to its end.
 
-use crate::{Step, Triggers};
 use listing::{Listing, Text};
 use std::alloc::{AllocError, Global};
 use std::test::Fail;
 use targets::Target;
 use trigger_command::{IdList, Selection, Spec, TriggerKind, UrlItem, UrlItemList};
 use trigger_status::{Filter, JobStatus};
+use trigger_table::{Step, Triggers};
 
 // a list of this URL, so many times
 fn urls(alloc: Global, count: usize) -> Result<UrlItemList, Fail> {

@@ -1,10 +1,10 @@
 // What no clause says: that an exchange succeeds where there is memory, on answers written out in full.
-use crate::exchange;
 use cdni_base::{Endpoint, Text};
 use edge_base::{MemorySink, MemorySource};
 use std::alloc::Global;
 use std::test::Fail;
 use upstream_gate::{Ask, Outcome};
+use upstream_http::exchange;
 
 fn ask_of(alloc: Global, endpoint: &[u8]) -> Result<Ask, Fail> {
     match Endpoint::read(alloc, endpoint) {

@@ -22,7 +22,7 @@ const FIELDS: &[u8] =
 
 /// The text of a log file (RFC 7937, section 3): its directives, one line for each row, in order, and the SHA-256 of
 /// all bytes before. Lines end in CR LF. Each moment is shown in UTC, and one after the year 9999 as the last of that
-/// year.
+/// year. Copies of the text share its bytes.
 ///
 /// # Errors
 /// Want of memory.
@@ -35,7 +35,7 @@ pub fn file_text(alloc: Global, head: &FileHead, rows: &RowList) -> Result<Text,
     add_form(&mut text)?;
     add_records(&mut text, rows.as_slice())?;
     add_hash(&mut text)?;
-    Ok(Text::from_vec(text))
+    Text::shared_from_vec(alloc, text)
 }
 
 // adds the directives that say which file this is

@@ -35,6 +35,18 @@ impl SharedBytes {
         })
     }
 
+    /// These bytes, which are moved and not copied.
+    ///
+    /// # Errors
+    /// Want of memory.
+    pub fn from_vec(alloc: Global, bytes: Vec<u8>) -> Result<SharedBytes, AllocError>
+        ensures { IfOk result (λ shared. shared ≡ bytes.items) }
+    {
+        Ok(SharedBytes {
+            bytes: Arc::new(alloc, bytes)?,
+        })
+    }
+
     /// The first `end` bytes.
     ///
     /// # Errors

@@ -98,6 +98,17 @@ impl Text {
         }
     }
 
+    /// The text of these bytes, which are moved and not copied, and which its own copies share.
+    ///
+    /// # Errors
+    /// Want of memory.
+    pub fn shared_from_vec(alloc: Global, bytes: Vec<u8>) -> Result<Text, AllocError>
+        ensures { IfOk result (λ text. text ≡ bytes.items) }
+    {
+        let end = bytes.len();
+        SharedBytes::from_vec(alloc, bytes)?.front(end)
+    }
+
     // the text that is this part of shared bytes
     pub(crate) fn of_part(part: SharedPart) -> Text
         ensures { result ≡ part }

@@ -4,6 +4,7 @@ ghost use Rattle.std.specs.Prelude.{◌≡◌, ◌==◌, ◌<◌, length, positi
 ghost use Rattle.listing.specs.Word.{parts_at, parts_or_whole};
 
 use crate::shared_bytes::SharedBytes;
+use crate::short_bytes::SHORT_MAX;
 use crate::text::Text;
 use memchr::memchr;
 use std::alloc::{AllocError, Global};
@@ -20,7 +21,7 @@ pub fn cut_at(byte: u8, text: &[u8]) -> Option<(&[u8], &[u8])>
 }
 
 /// What stands before the first `byte` of `text` and what stands after it, as parts of one copy of the text; the whole alone
-/// where there is none.
+/// where there is none. Parts of a text of at most 16 bytes take no memory.
 ///
 /// # Errors
 /// Want of memory.
@@ -32,10 +33,27 @@ pub fn shared_parts(
 ) -> Result<(Text, Option<Text>), AllocError>
     ensures { IfOk result (λ parts. parts ≡ parts_or_whole byte text.now) }
 {
+    if text.len() <= SHORT_MAX {
+        return short_parts(alloc, byte, text);
+    }
     let whole = SharedBytes::of(alloc, text)?;
     match place_of(byte, text) {
         Some(place) => Ok((whole.front(place)?, Some(whole.rest(place + 1)?))),
         None => Ok((whole.front(text.len())?, None)),
+    }
+}
+
+// the same, each part with its own bytes
+fn short_parts(
+    alloc: Global,
+    byte: u8,
+    text: &[u8],
+) -> Result<(Text, Option<Text>), AllocError>
+    ensures { IfOk result (λ parts. parts ≡ parts_or_whole byte text.now) }
+{
+    match cut_at(byte, text) {
+        Some((front, rest)) => Ok((Text::of(alloc, front)?, Some(Text::of(alloc, rest)?))),
+        None => Ok((Text::of(alloc, text)?, None)),
     }
 }
 

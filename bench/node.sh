@@ -3,7 +3,8 @@
 # file, in a node with one open delivery and no row, and in one with 25,000 open deliveries and 25,000 rows that no log
 # file has: none may take more than 1.2 times as many in the second. The same for the ends of deliveries, in their order, in the
 # reverse one and in a mixed one, with 2,000 and with 50,000 of them open, of which the oldest stays open. And the instructions
-# of a cut of 100,000 rows, beside those that SHA-256 takes of them in the same run: at most 1.3 times as many.
+# of a cut of 100,000 rows and of the first reading of its file, beside those that SHA-256 takes in the same run: at most 1.3 times
+# as many.
 # It ends with status 1 where a figure is past what is asked for.
 # Usage: bench/node.sh   (needs valgrind; builds the program by `rt run` where it is not built; takes some ten minutes)
 set -eu
@@ -93,7 +94,9 @@ done
 filled 0 99999 >"$room/rows"
 uncut=$(replay_instructions "$room/rows")
 echo '0 9000 cut' >>"$room/rows"
-cut=$(($(replay_instructions "$room/rows") - uncut))
+cut=$(replay_instructions "$room/rows")
+echo '0 9000 log 1' >>"$room/rows"
+read=$(replay_instructions "$room/rows")
 hashed=$(callgrind_annotate --inclusive=yes "$room/out" | tr -d ' ,' | sed -n 's/^\([0-9]*\)([^)]*)???:sha2::.*/\1/p' | head -n 1)
-echo "a cut of 99,999 rows: $cut instructions, of which SHA-256 takes $hashed"
-within "a hundred times the cut beside SHA-256" $((cut * 100 / hashed)) 130
+echo "a cut of 99,999 rows: $((cut - uncut)) instructions; the first reading of its file: $((read - cut)), of which SHA-256 takes $hashed"
+within "a hundred times the cut and the reading beside SHA-256" $(((read - uncut) * 100 / hashed)) 130

@@ -2,6 +2,8 @@
 
 ghost use Rattle.std.specs.Prelude.{◌≡◌, ◌<◌, ◌≤◌, ◌+◌, ◌-◌, ◌^◌, List, ℕ, [], ◌∷◌, ◌++◌, length, decimal, IfOk, OnOk, OnErr};
 ghost use Rattle.std.specs.List.{prefix_len};
+ghost use Rattle.std.specs.Ordering.{nat_cmp, is_lt};
+ghost use Rattle.std.specs.Cmp.Lexicographic.{slice_cmp};
 ghost use Rattle.answer_summary.specs.Summary.{word_of, rows_of, counted, summary_text, row_line, is_in_word, stands_before};
 
 use itoa::Buffer;
@@ -130,7 +132,17 @@ fn place_of(rows: &[Row], word: &[u8]) -> usize
 fn stands_before(row: &Row, word: &[u8]) -> bool
     ensures { result ≡ stands_before word.now row.now }
 {
-    row.word.bytes().cmp(word).is_lt()
+    is_before(row.word.bytes(), word)
+}
+
+// whether the word comes before the other in byte order, which its first byte says most often
+fn is_before(word: &[u8], other: &[u8]) -> bool
+    ensures { result ≡ is_lt (slice_cmp nat_cmp word.now other.now) }
+{
+    match (word, other) {
+        ([first, ..], [other_first, ..]) if *first != *other_first => *first < *other_first,
+        _ => word.cmp(other).is_lt(),
+    }
 }
 
 // adds the line of a row

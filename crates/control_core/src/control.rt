@@ -1,7 +1,7 @@
 //! The triggers that are not deleted, and the log files that are kept.
 
-ghost use Rattle.std.specs.Prelude.{◌≡◌, ◌≤◌, ◌^◌, ◌+◌, [], Ok, IfOk, OnErr, OnOk, is_some, length, map, not, ◌==◌};
-ghost use Rattle.std.specs.List.{filter, list_any};
+ghost use Rattle.std.specs.Prelude.{◌≡◌, ◌≤◌, ◌^◌, ◌+◌, ◌<◌, [], IfOk, IfSome, OnErr, OnOk, is_some, length, map, not, ◌==◌};
+ghost use Rattle.std.specs.List.{filter, list_any, position};
 ghost use Rattle.std.specs.Option.{option_map};
 ghost use Rattle.history.specs.After.{ended_fetch, ended_refresh};
 ghost use Rattle.history.specs.Steps.{changed, listed, trigger_of};
@@ -9,8 +9,9 @@ ghost use Rattle.trigger_table.specs.State.{next_step, opened_by, step_ended};
 ghost use Rattle.trigger_table.specs.Triggers.{cancel_after, cancel_reply, command_after, command_reply, step_after, without, StaysEnded, TriggersGoOn};
 ghost use Rattle.control_core.specs.Control.{empty, file_reply, file_after, text_at, has_number, with_table, with_triggers};
 
+use crate::file::FileText;
 use cdni_base::{Limits, Moment, Text};
-use cdni_log::{FileHead, RowList, file_text};
+use cdni_log::{FileHead, RowList};
 use std::alloc::{AllocError, Global};
 use std::marker::Model;
 use trigger_command::{IdList, Spec};
@@ -23,11 +24,12 @@ pub struct LogFile {
     /// Its number, from 1.
     pub number: u64,
     /// Its bytes.
-    pub text: Text,
+    pub text: FileText,
 }
 
 /// The triggers that are not deleted, and the log files that are kept. It is seen as these, in order, how many there may be
-/// of each, and how many there ever were. A call for files takes steps in proportion to those that are kept, at most 64.
+/// of each, and how many there ever were. A call for files takes steps in proportion to those that are kept, at most 64, and
+/// the first reading of a file to its rows.
 #[derive(Drop)]
 pub struct Control {
     triggers: Triggers,
@@ -37,23 +39,30 @@ pub struct Control {
 }
 
 impl Model for Control {
+    ghost use Rattle.std.specs.Prelude.{◌≤◌, length};
+    ghost use Rattle.std.specs.Vec.{vec_capacity};
     ghost use Rattle.control_core.specs.Control.{ControlView};
 
     ghost Value = { ControlView };
 
     ghost view = { λ c. record { triggers = c.triggers; files = c.files.items; most = c.most; filed = c.filed } };
+
+    ghost invariant = { λ c. (length c.files.items ≤ c.most) × (c.most ≤ vec_capacity c.files) };
 }
 
 impl Control {
     ghost use Rattle.control_core.specs.Control.{ControlView};
 
-    /// No trigger, and no file. It takes no memory, and does not fail.
+    /// No trigger, and no file, with a place for each file that may be kept.
+    ///
+    /// # Errors
+    /// Want of memory.
     pub fn new(alloc: Global, limits: &Limits) -> Result<Control, AllocError>
-        ensures { result ≡ Ok (empty limits.now) }
+        ensures { IfOk result (λ control. control ≡ empty limits.now) }
     {
         Ok(Control {
             triggers: Triggers::new(alloc, limits.triggers),
-            files: Vec::new(alloc),
+            files: Vec::with_capacity(alloc, limits.files as usize)?,
             most: limits.files,
             filed: 0,
         })
@@ -194,48 +203,44 @@ impl Control {
     }
 
     /// Keeps the log file of this head and these rows, whose number is the next one, and answers it; `None` where as many
-    /// files are kept as may be.
-    ///
-    /// # Errors
-    /// Want of memory. Nothing has changed then.
-    pub fn file(
-        &mut self,
-        alloc: Global,
-        head: &FileHead,
-        rows: &RowList,
-    ) -> Result<Option<u64>, AllocError>
-        requires next { head.now.number ≡ self.old.filed + 1 }
-        ensures reply { IfOk result (λ r. r ≡ file_reply self.old) }
-        ensures after { OnOk result (self.new ≡ file_after self.old head.now rows.now.items) }
-        ensures err { OnErr result (self.new ≡ self.old) }
+    /// files are kept as may be. It takes no memory: the text is written when it is first asked for.
+    pub fn file(&mut self, head: FileHead, rows: RowList) -> Option<u64>
+        requires next { head.number ≡ self.old.filed + 1 }
+        ensures reply { result ≡ file_reply self.old }
+        ensures after { self.new ≡ file_after self.old head rows.items }
     {
         if self.files.len() as u64 == self.most {
-            return Ok(None);
+            return None;
         }
-        let text = file_text(alloc, head, rows)?;
-        let file = LogFile {
-            number: head.number,
-            text,
-        };
-        match self.files.push(file) {
-            Ok(()) => {
-                self.filed = head.number;
-                Ok(Some(head.number))
-            }
-            Err(_) => Err(AllocError),
-        }
+        let number = head.number;
+        self.files.push_reserved(LogFile {
+            number,
+            text: FileText::of(head, rows),
+        });
+        self.filed = number;
+        Some(number)
     }
 
     /// The text of the log file of this number, where it is kept.
-    pub fn file_at(&self, number: u64) -> Option<&Text>
-        ensures { option_map (λ text. text.now) result ≡ text_at number self.now.files }
+    ///
+    /// # Errors
+    /// Want of memory. It takes some only for a file that was not asked for before.
+    pub fn file_at(&mut self, alloc: Global, number: u64) -> Result<Option<Text>, AllocError>
+        ensures text { IfOk result (λ text. text ≡ text_at number self.old.files) }
+        ensures same { self.new ≡ self.old }
     {
-        'files: for file in &self.files {
-            if file.number == number {
-                return Some(&file.text);
-            }
+        match self.place_of(number) {
+            Some(place) => Ok(Some(self.files[place].text.read(alloc)?)),
+            None => Ok(None),
         }
-        None
+    }
+
+    // where the file of this number stands
+    fn place_of(&self, number: u64) -> Option<usize>
+        ensures place { result ≡ position (has_number number) self.now.files }
+        ensures within { IfSome result (λ place. place < length self.now.files) }
+    {
+        self.files.iter().position(|file| file.number == number)
     }
 
     /// Drops the log file of this number. The answer is whether it was kept.
@@ -245,9 +250,16 @@ impl Control {
           files = filter (λ file. not (has_number number file)) self.old.files;
         } }
     {
-        let kept = self.file_at(number).is_some();
+        let kept = self.has_file(number);
         self.files.retain(|file| file.number != number);
         kept
+    }
+
+    // whether the file of this number is kept
+    fn has_file(&self, number: u64) -> bool
+        ensures { result ≡ list_any (has_number number) self.now.files }
+    {
+        self.files.iter().any(|file| file.number == number)
     }
 
     /// The numbers of the log files that are kept, in order.

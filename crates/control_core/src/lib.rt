@@ -3,5 +3,7 @@
 #![tactic(auto)]
 
 mod control;
+mod file;
 
 pub use control::{Control, LogFile};
+pub use file::FileText;

@@ -342,11 +342,16 @@ impl Edge {
         self.records.unfiled()
     }
 
-    /// A log file has all rows now.
-    pub fn rows_filed(&mut self)
-        ensures { self.new ≡ record self.old { seen = record self.old.seen { unfiled = [] } } }
+    /// Takes the rows that no log file has, for the next one.
+    ///
+    /// # Errors
+    /// Want of memory. Nothing has changed then.
+    pub fn take_rows(&mut self, alloc: Global) -> Result<RowList, AllocError>
+        ensures rows { IfOk result (λ rows. rows.items ≡ self.old.seen.unfiled) }
+        ensures after { OnOk result (self.new ≡ record self.old { seen = record self.old.seen { unfiled = [] } }) }
+        ensures err { OnErr result (self.new ≡ self.old) }
     {
-        self.records.file_rows();
+        self.records.take_rows(alloc)
     }
 
     /// The lengths of all bodies that are in memory together, in bytes: of the kept objects, and of those that starts have

@@ -1,6 +1,6 @@
 //! The deliveries that are open, and the rows of those that were finished.
 
-ghost use Rattle.std.specs.Prelude.{◌≡◌, true, ◌+◌, ◌-◌, ◌^◌, ◌<◌, ◌≤◌, [], OnOk, OnErr, is_some, max, length};
+ghost use Rattle.std.specs.Prelude.{◌≡◌, true, ◌+◌, ◌-◌, ◌^◌, ◌<◌, ◌≤◌, [], OnOk, OnErr, is_some, max, length, IfOk};
 ghost use Rattle.std.specs.List.{find};
 ghost use Rattle.shelf.specs.Open.{is_named};
 ghost use Rattle.delivery_core.specs.Records.{begun, finish_reply, finish_after, finished_row};
@@ -13,6 +13,7 @@ use rows::Row;
 use shelf::{Named, Open};
 use std::alloc::{AllocError, Global};
 use std::marker::Model;
+use std::mem;
 
 /// How a delivery ended.
 #[derive(Clone, Copy, Debug, PartialEq, Eq)]
@@ -87,11 +88,21 @@ impl Records {
         &self.unfiled
     }
 
-    /// A log file has all rows.
-    pub fn file_rows(&mut self)
-        ensures { self.new ≡ record self.old { unfiled = [] } }
+    /// Takes the rows that no log file has.
+    ///
+    /// # Errors
+    /// Want of memory. Nothing has changed then.
+    pub fn take_rows(&mut self, alloc: Global) -> Result<RowList, AllocError>
+        ensures rows { IfOk result (λ rows. rows.items ≡ self.old.unfiled) }
+        ensures after { OnOk result (self.new ≡ record self.old { unfiled = [] }) }
+        ensures refused { OnErr result (self.new ≡ self.old) }
     {
-        self.unfiled.clear();
+        let Some(places) = self.deliveries.len().checked_add(self.deliveries.spare()) else {
+            return Err(AllocError);
+        };
+        let mut next = ReservedList::new(alloc);
+        reserve_rows(alloc, &mut next, places)?;
+        Ok(mem::replace(&mut self.unfiled, next))
     }
 
     /// Whether the delivery of this number is open, and this pass began it.

@@ -11,6 +11,9 @@ use cdni_base::Target;
 use metadata_objects::{GenericList, HostIndex, HostMatch, Level, PathMatch};
 use std::alloc::{AllocError, Global};
 
+// there is room for so many arrays at once: few targets have more levels
+const USUAL_LEVELS: usize = 4;
+
 // the arrays of the first HostMatch that matches, outermost first
 #[tactic(auto, unfolding(crate::specs::Chain::chain))]
 pub(crate) fn chain<'t>(
@@ -133,7 +136,7 @@ fn arrays<'t>(
     ensures { IfOk result (λ arrays.
         map (λ objects. objects.now) arrays.items ≡ arrays_at path.now (level_view level.now)) }
 {
-    let mut arrays = Vec::new(alloc);
+    let mut arrays = Vec::with_capacity(alloc, USUAL_LEVELS)?;
     let mut here = level;
     'levels: loop {
         arrays.push(objects(here))?;

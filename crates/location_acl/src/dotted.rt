@@ -15,6 +15,7 @@ pub enum Dotted {
 }
 
 /// The number with one more digit behind it. `None` where that is no number 0 to 255 without leading zeros.
+#[inline]
 pub fn number_with(number: Option<u8>, byte: u8) -> Option<u8>
     ensures { result ≡ number_with number byte }
 {
@@ -31,6 +32,7 @@ pub fn number_with(number: Option<u8>, byte: u8) -> Option<u8>
 
 impl Dotted {
     /// The front with one more byte. `None` where no IPv4 address begins so.
+    #[inline]
     pub fn step(self, byte: u8) -> Option<Dotted>
         ensures { result ≡ dotted_step self byte }
     {

@@ -165,7 +165,7 @@ impl State {
                 moment,
             } => self.admit(alloc, pass, asked.clone()?, *place, *moment),
             Call::Cut { moment } => self.cut(alloc, *moment),
-            Call::LogFile { number } => self.log_file(*number),
+            Call::LogFile { number } => self.log_file(alloc, *number),
             Call::ListLogs => self.list_logs(alloc),
             Call::DropLog { number } => Ok(self.drop_log(*number)),
             Call::Command { spec, moment } => self.command(alloc, spec.clone()?, *moment),
@@ -305,22 +305,22 @@ impl State {
             moment,
             origin: copy_of(&self.origin)?,
         };
-        match self.control.file(alloc, &head, self.edge.unfiled())? {
-            Some(number) => {
-                self.edge.rows_filed();
-                self.opened += 1;
-                Ok(Reply::File { number })
-            }
-            None => unreachable!(),
-        }
+        let rows = self.edge.take_rows(alloc)?;
+        let Some(number) = self.control.file(head, rows) else {
+            unreachable!()
+        };
+        self.opened += 1;
+        Ok(Reply::File { number })
     }
 
-    fn log_file(&self, number: u64) -> Result<Reply, AllocError>
-        ensures told { (made : Made) (h : History) (pass : ℕ) → Follows self.now.seen made h
-            → IfOk result (λ r. Says made h (pass, LogFile number) r self.now.seen) }
+    fn log_file(&mut self, alloc: Global, number: u64) -> Result<Reply, AllocError>
+        ensures told { (made : Made) (h : History) (pass : ℕ) → Follows self.old.seen made h
+            → IfOk result (λ r. Says made h (pass, LogFile number) r self.old.seen) }
         ensures kind { IfOk result (λ r. answers_log_file r ≡ true) }
+        ensures same { self.new ≡ self.old }
     {
-        log_reply(number, self.control.file_at(number))
+        let text = self.control.file_at(alloc, number)?;
+        Ok(log_reply(number, text))
     }
 
     fn list_logs(&self, alloc: Global) -> Result<Reply, AllocError>
@@ -353,14 +353,12 @@ fn copy_of(text: &Text) -> Result<Text, AllocError>
 }
 
 // the reply to the reading of a log file with this text
-fn log_reply(number: u64, text: Option<&Text>) -> Result<Reply, AllocError>
-    ensures { IfOk result (λ r. r ≡ logged number (option_map (λ it. it.now) text.entry)) }
+fn log_reply(number: u64, text: Option<Text>) -> Reply
+    ensures { result ≡ logged number text }
 {
     match text {
-        Some(text) => Ok(Reply::LogText {
-            text: text.clone()?,
-        }),
-        None => Ok(Reply::Unknown { id: number }),
+        Some(text) => Reply::LogText { text },
+        None => Reply::Unknown { id: number },
     }
 }
 

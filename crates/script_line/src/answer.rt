@@ -9,6 +9,7 @@ ghost use Rattle.hex.specs.Hex.{encode_lower};
 ghost use Rattle.trigger_status.specs.Job.{job_text, status_name};
 ghost use Rattle.script_line.specs.Answer.{kind_word, body_word, more_number, more_status, numbers_word, log_text, ended_text, numbered, endpoint_word, plan_text, cause_text, fault_text, failed_line, fetch_line, statuses_word, scripted_collection, trigger_line, refused_line, answer_line};
 
+use crate::grammar::SPACE;
 use crate::own::{control_host, own_id};
 use cdni_base::{Endpoint, HTTP_PORT, Rule, Target, Text};
 use history::Reply;
@@ -97,7 +98,7 @@ pub fn put_refusal(alloc: Global, out: &mut Vec<u8>, fault: &CommandFault) -> Re
 {
     let refusal = fault.text(alloc)?;
     put(out, refusal.bytes())?;
-    put(out, b"\n")
+    put_byte(out, LINE_FEED)
 }
 
 // adds the answer line of a reply that speaks of triggers
@@ -133,6 +134,13 @@ fn put(out: &mut Vec<u8>, bytes: &[u8]) -> Result<(), AllocError>
     out.extend_from_slice(bytes)
 }
 
+fn put_byte(out: &mut Vec<u8>, byte: u8) -> Result<(), AllocError>
+    ensures { OnOk result (out.new.items ≡ out.old.items ++ byte ∷ []) }
+{
+    out.push(byte)?;
+    Ok(())
+}
+
 fn put_number(out: &mut Vec<u8>, number: u64) -> Result<(), AllocError>
     ensures { OnOk result (out.new.items ≡ out.old.items ++ decimal number) }
 {
@@ -144,9 +152,9 @@ fn put_numbered(out: &mut Vec<u8>, word: &[u8], number: u64) -> Result<(), Alloc
     ensures { OnOk result (out.new.items ≡ out.old.items ++ numbered word.now number) }
 {
     put(out, word)?;
-    put(out, b" ")?;
+    put_byte(out, SPACE)?;
     put_number(out, number)?;
-    put(out, b"\n")
+    put_byte(out, LINE_FEED)
 }
 
 fn put_log(out: &mut Vec<u8>, text: &[u8]) -> Result<(), AllocError>
@@ -154,7 +162,7 @@ fn put_log(out: &mut Vec<u8>, text: &[u8]) -> Result<(), AllocError>
 {
     put_numbered(out, b"text", text.len() as u64)?;
     put(out, text)?;
-    put(out, b"\n")
+    put_byte(out, LINE_FEED)
 }
 
 fn put_logs(out: &mut Vec<u8>, numbers: &[u64]) -> Result<(), AllocError>
@@ -163,7 +171,7 @@ fn put_logs(out: &mut Vec<u8>, numbers: &[u64]) -> Result<(), AllocError>
 {
     put(out, b"logs ")?;
     put_numbers(out, numbers)?;
-    put(out, b"\n")
+    put_byte(out, LINE_FEED)
 }
 
 // numbers joined by commas, or `-` where there are none
@@ -198,7 +206,7 @@ fn put_failed(out: &mut Vec<u8>, note: Option<&MetaFault>) -> Result<(), AllocEr
     };
     put(out, b"failed ")?;
     put_fault(out, fault)?;
-    put(out, b"\n")
+    put_byte(out, LINE_FEED)
 }
 
 fn put_fault(out: &mut Vec<u8>, fault: &MetaFault) -> Result<(), AllocError>
@@ -221,7 +229,7 @@ fn put_field(out: &mut Vec<u8>, field: &FieldFault) -> Result<(), AllocError>
 {
     put(out, b"field ")?;
     put(out, field.path.bytes())?;
-    put(out, b" ")?;
+    put_byte(out, SPACE)?;
     put(out, cause_text(field.cause))
 }
 
@@ -242,11 +250,11 @@ fn put_denied(out: &mut Vec<u8>, delivery: u64, rule: &Rule) -> Result<(), Alloc
 {
     put(out, b"denied ")?;
     put_number(out, delivery)?;
-    put(out, b" ")?;
+    put_byte(out, SPACE)?;
     put_number(out, rule.status() as u64)?;
-    put(out, b" ")?;
+    put_byte(out, SPACE)?;
     put_rule(out, rule)?;
-    put(out, b"\n")
+    put_byte(out, LINE_FEED)
 }
 
 fn put_rule(out: &mut Vec<u8>, rule: &Rule) -> Result<(), AllocError>
@@ -282,10 +290,10 @@ fn put_miss(
 {
     put(out, b"miss ")?;
     put_number(out, delivery)?;
-    put(out, b" ")?;
+    put_byte(out, SPACE)?;
     put_number(out, fetch)?;
     put_plan(out, plan)?;
-    put(out, b"\n")
+    put_byte(out, LINE_FEED)
 }
 
 fn ended_text(kept: bool) -> &'static [u8]
@@ -307,13 +315,13 @@ fn put_hit(
 {
     put(out, b"hit ")?;
     put_number(out, delivery)?;
-    put(out, b" ")?;
+    put_byte(out, SPACE)?;
     put_number(out, fetch)?;
-    put(out, b" ")?;
+    put_byte(out, SPACE)?;
     put_kind(out, kind)?;
-    put(out, b" ")?;
+    put_byte(out, SPACE)?;
     put_body(out, body)?;
-    put(out, b"\n")
+    put_byte(out, LINE_FEED)
 }
 
 // the content type, or `-` where it is empty
@@ -351,7 +359,7 @@ fn put_plan(out: &mut Vec<u8>, plan: &[Endpoint]) -> Result<(), AllocError>
 fn put_endpoint(out: &mut Vec<u8>, endpoint: &Endpoint) -> Result<(), AllocError>
     ensures { OnOk result (out.new.items ≡ out.old.items ++ endpoint_word endpoint.now) }
 {
-    put(out, b" ")?;
+    put_byte(out, SPACE)?;
     put(out, endpoint.host.bytes())?;
     put(out, b":")?;
     put_number(out, endpoint.port.unwrap_or(HTTP_PORT) as u64)
@@ -396,10 +404,10 @@ fn put_fetch(
     let url = target.url_text(alloc, false)?;
     put(out, b"fetch ")?;
     put_number(out, fetch)?;
-    put(out, b" ")?;
+    put_byte(out, SPACE)?;
     put(out, url.bytes())?;
     put_plan(out, plan)?;
-    put(out, b"\n")
+    put_byte(out, LINE_FEED)
 }
 
 fn put_final(out: &mut Vec<u8>, status: JobStatus) -> Result<(), AllocError>
@@ -408,7 +416,7 @@ fn put_final(out: &mut Vec<u8>, status: JobStatus) -> Result<(), AllocError>
 {
     put(out, b"final ")?;
     put(out, status_name(status))?;
-    put(out, b"\n")
+    put_byte(out, LINE_FEED)
 }
 
 // the name of a status (RFC 8007, section 5.2.3)
@@ -437,7 +445,7 @@ fn put_statuses(out: &mut Vec<u8>, statuses: &[JobStatus]) -> Result<(), AllocEr
             put_more_statuses(out, rest)?;
         }
     }
-    put(out, b"\n")
+    put_byte(out, LINE_FEED)
 }
 
 // the other statuses, each behind a comma
@@ -458,7 +466,7 @@ fn put_resource(alloc: Global, out: &mut Vec<u8>, job: &Job) -> Result<(), Alloc
     let json = job_json(alloc, job)?;
     put(out, b"resource ")?;
     put(out, json.bytes())?;
-    put(out, b"\n")
+    put_byte(out, LINE_FEED)
 }
 
 fn put_collection(
@@ -473,7 +481,7 @@ fn put_collection(
     let json = scripted_collection(alloc, filter, ids)?;
     put(out, b"collection ")?;
     put(out, json.bytes())?;
-    put(out, b"\n")
+    put_byte(out, LINE_FEED)
 }
 
 // the collection of the triggers of a script

@@ -89,7 +89,9 @@ pub fn differs<R: Threads + Wait + Sync>(
     if !home.is_whole || !gate.is_whole {
         bail!("no memory");
     }
-    if ending == Ending::Memory && value.get("refusing").is_some() {
+    // the sink in memory faults where it may not grow
+    let refused = matches!(ending, Ending::Memory | Ending::WriteFault);
+    if refused && value.get("refusing").is_some() {
         return Ok(None);
     }
     if !is_ending(value, ending)? {

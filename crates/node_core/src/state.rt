@@ -315,7 +315,7 @@ impl State {
 
     fn log_file(&mut self, alloc: Global, number: u64) -> Result<Reply, AllocError>
         ensures told { (made : Made) (h : History) (pass : ℕ) → Follows self.old.seen made h
-            → IfOk result (λ r. Says made h (pass, LogFile number) r self.old.seen) }
+            → IfOk result (λ r. Says made h (pass, LogFile number) r self.new.seen) }
         ensures kind { IfOk result (λ r. answers_log_file r ≡ true) }
         ensures same { self.new ≡ self.old }
     {

@@ -1,3 +1,5 @@
+use Rattle.std.proofs.Common.{ap}
+use Rattle.node_core.specs.State.{StateHolding}
 use Rattle.shelf.proofs.HeldLemmas.{part_or_same}
 use Rattle.node_core.proofs.PurgedLemmas.{part_or_eq}
 use Rattle.node_core.proofs.state.State.call.Goals as goal
@@ -21,7 +23,7 @@ pub returns-in_ok-clone-in-Command-clause-held : goal.returns-in_ok-clone-in-Com
 returns-in_ok-clone-in-Command-clause-held c = part_or_eq _ _ _ c.command.ensures.held
 
 pub returns-in-LogFile-clause-held : goal.returns-in-LogFile-clause-held
-returns-in-LogFile-clause-held c = part_or_same _ _
+returns-in-LogFile-clause-held c = part_or_eq _ _ _ (ap (λ (v : StateHolding). v.held) c.log_file.ensures.same)
 
 pub returns-in-ListLogs-clause-held : goal.returns-in-ListLogs-clause-held
 returns-in-ListLogs-clause-held c = part_or_same _ _

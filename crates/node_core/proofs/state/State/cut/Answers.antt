@@ -21,10 +21,10 @@ returns-then-self-limits-clause-told c = λ made h pass s. rw (← c.self.view_i
 
 pub returns-clause-told : goal.returns-clause-told
 returns-clause-told c = λ made h pass s.
-    let filed = filed_by c.self.inside.control c.file.new.self c.in-Some.number _ _ _ _ (sym c.in-Some.is ∙ c.in_ok-number.ensures.reply) c.in_ok-number.ensures.after
-    (heads_are c.args.moment _ _ _ _ c.filed.ensures c.in_ok-copy_of.ensures) c.unfiled-2.ensures in
+    let filed = filed_by c.self.inside.control c.file.new.self c.in-Some.number _ _ _ _ (sym c.in-Some.is ∙ c.file.ensures.reply) c.file.ensures.after
+    (heads_are c.args.moment _ _ _ _ c.filed.ensures c.in_ok-copy_of.ensures) c.in_ok-rows.ensures.rows in
     file_told made h c.self.inside.edge.seen c.self.inside.control c.self.inside.origin c.self.inside.opened (rw (← c.self.view_is) at s) pass c.args.moment _ _ _
     (omega (arith, c.if-len-eq0.false, c.len.ensures, ap length c.unfiled.ensures))
     (ne_eqb (length c.self.inside.control.files) c.self.inside.edge.seen.limits.files (rw (← c.file_count-count.ensures) (rw (← c.limits.ensures) (rw (← c.limits-2.view_is) c.if-count-limits.false))))
     (ne_eqb c.self.inside.opened c.self.inside.edge.seen.limits.opened (rw (← c.limits-3.ensures) (rw (← c.limits-4.view_is) c.if-self-limits.false)))
-    filed.0 (ap (λ (v : Holding). v.seen) c.rows_filed.ensures) filed.1
+    filed.0 (ap (λ (v : Holding). v.seen) c.in_ok-rows.ensures.after) filed.1

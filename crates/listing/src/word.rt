@@ -44,11 +44,7 @@ pub fn shared_parts(
 }
 
 // the same, each part with its own bytes
-fn short_parts(
-    alloc: Global,
-    byte: u8,
-    text: &[u8],
-) -> Result<(Text, Option<Text>), AllocError>
+fn short_parts(alloc: Global, byte: u8, text: &[u8]) -> Result<(Text, Option<Text>), AllocError>
     ensures { IfOk result (λ parts. parts ≡ parts_or_whole byte text.now) }
 {
     match cut_at(byte, text) {

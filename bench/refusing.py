@@ -34,6 +34,7 @@ def case(name, outcomes, requests, written, ending, asks):
         "limits": {"cache": 268435456, "rows": 20000, "triggers": 1000, "files": 16, "period": 60000, "opened": 4611686018427387904},
         "outcomes": outcomes, "moments": [[MOMENT, 1]],
         "connections": [{
+            "refusing": True,
             "peer": {"ip": "192.0.2.7", "asn": 64496, "country": "us"},
             "source": [[request, 1] for request in requests], "reads": [], "takes": [],
             "written": written, "ending": ending, "calls": [], "asks": asks,

@@ -4,6 +4,6 @@
 #[cfg(test)]
 mod commands;
 #[cfg(test)]
-mod doors;
+mod memory;
 #[cfg(test)]
-mod sockets;
+mod over_tcp;

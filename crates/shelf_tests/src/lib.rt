@@ -3,10 +3,10 @@
 #![tactic(auto)]
 
 #[cfg(test)]
+mod items;
+#[cfg(test)]
 mod objects;
 mod plain_shelf;
-#[cfg(test)]
-mod rows;
 #[cfg(test)]
 mod tests;
 

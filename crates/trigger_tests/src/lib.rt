@@ -4,7 +4,7 @@
 #[cfg(test)]
 mod commands;
 #[cfg(test)]
-mod epochs;
+mod starts;
 #[cfg(test)]
 mod statuses;
 #[cfg(test)]

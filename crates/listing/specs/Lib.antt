@@ -1,4 +1,5 @@
 pub mod Number
+pub mod ShortBytes
 pub mod Word
 pub mod FirstMatch
 pub mod Fronts

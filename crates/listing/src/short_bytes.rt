@@ -1,6 +1,6 @@
 //! A few bytes that stand in the value itself.
 
-ghost use Rattle.std.specs.Prelude.{◌≡◌, ◌≤◌, length};
+ghost use Rattle.std.specs.Prelude.{◌≡◌, ◌≤◌, length, bytes_eq};
 ghost use Rattle.std.specs.Str.{str_to_ascii_lowercase};
 ghost use Rattle.listing.specs.declared.short_bytes.TheConstants.{SHORT_MAX};
 
@@ -20,12 +20,13 @@ pub(crate) struct ShortBytes {
 impl Model for ShortBytes {
     ghost use Rattle.std.specs.Prelude.{ℕ, ◌≤◌, List, take};
     ghost use Rattle.listing.specs.declared.short_bytes.TheConstants.{SHORT_MAX};
+    ghost use Rattle.listing.specs.ShortBytes.{IsZeroFrom};
 
     ghost Value = { List ℕ };
 
     ghost view = { λ s. take s.length s.bytes };
 
-    ghost invariant = { λ s. s.length ≤ SHORT_MAX };
+    ghost invariant = { λ s. (s.length ≤ SHORT_MAX) × IsZeroFrom s.length s.bytes };
 }
 
 impl ShortBytes {
@@ -57,12 +58,26 @@ impl ShortBytes {
         }
     }
 
+    /// Whether both are the same bytes.
+    pub fn is_same(&self, other: &ShortBytes) -> bool
+        ensures { result ≡ bytes_eq self.now other.now }
+    {
+        self.length == other.length && is_same_array(self.bytes, other.bytes)
+    }
+
     /// The bytes.
     pub fn bytes(&self) -> &[u8]
         ensures { result.now ≡ self.now }
     {
         &self.bytes[..self.length]
     }
+}
+
+// whether both are the same bytes, compared as one number
+fn is_same_array(bytes: [u8; SHORT_MAX], others: [u8; SHORT_MAX]) -> bool
+    ensures { result ≡ bytes_eq bytes others }
+{
+    u128::from_le_bytes(bytes) == u128::from_le_bytes(others)
 }
 
 impl Clone for ShortBytes {

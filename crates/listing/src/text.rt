@@ -169,7 +169,10 @@ impl PartialEq for Text {
         ensures value { result ≡ bytes_eq self.now other.now }
         ensures same { IsTrue result ↔ (self.now ≡ other.now) }
     {
-        self.is(other.bytes())
+        match (&self.held, &other.held) {
+            (Held::Short(bytes), Held::Short(others)) => bytes.is_same(others),
+            _ => self.is(other.bytes()),
+        }
     }
 }
 

@@ -2,7 +2,5 @@
 #![tactic(auto)]
 
 mod answer;
-#[cfg(test)]
-mod tests;
 
 pub use answer::{ANSWER_HEAD_MAX, Allow, AnswerHead, ContentRange, Location, Made, put_head};

@@ -3,8 +3,6 @@
 
 mod law;
 mod summary;
-#[cfg(test)]
-mod tests;
 
 pub use law::a_summary_has_each_word_once;
 pub use summary::{Row, Summary};

@@ -4,8 +4,6 @@
 pub mod laws;
 mod put;
 mod span;
-#[cfg(test)]
-mod tests;
 mod want;
 
 pub use put::put_range;

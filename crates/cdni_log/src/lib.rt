@@ -7,8 +7,6 @@ pub mod laws;
 mod line;
 mod record;
 mod row;
-#[cfg(test)]
-mod tests;
 
 pub use file::file_text;
 pub use row::{FileHead, Row, RowList};

@@ -6,8 +6,6 @@ mod advertisement;
 mod capability;
 pub mod laws;
 mod settings;
-#[cfg(test)]
-mod tests;
 mod write;
 
 pub use advertisement::advert;

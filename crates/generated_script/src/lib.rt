@@ -5,8 +5,6 @@ mod course;
 mod line;
 mod numbers;
 mod script;
-#[cfg(test)]
-mod tests;
 
 pub use course::{Course, PASSES, PATHS};
 pub use numbers::{MOST_ROUNDS, MOST_SEED, Numbers};

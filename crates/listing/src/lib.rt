@@ -9,8 +9,6 @@ mod number;
 mod reserved_list;
 mod shared_bytes;
 mod short_bytes;
-#[cfg(test)]
-mod tests;
 mod text;
 mod word;
 

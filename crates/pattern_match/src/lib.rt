@@ -5,8 +5,6 @@
 pub mod laws;
 mod pattern;
 pub mod plain;
-#[cfg(test)]
-mod tests;
 mod tokens;
 mod units;
 mod walk;

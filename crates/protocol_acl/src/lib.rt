@@ -2,7 +2,5 @@
 #![tactic(auto)]
 
 mod acl;
-#[cfg(test)]
-mod tests;
 
 pub use acl::{NameList, ProtocolAcl, ProtocolRule, ProtocolRuleList};

@@ -5,7 +5,5 @@ mod form;
 mod matching;
 mod options;
 mod reading;
-#[cfg(test)]
-mod tests;
 
 pub use options::{Options, OptionsRead, read_options};

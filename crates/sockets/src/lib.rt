@@ -9,8 +9,6 @@ mod pace;
 mod ready;
 mod room;
 mod sink;
-#[cfg(test)]
-mod tests;
 mod waits;
 
 pub use gate::TcpGate;

@@ -2,8 +2,6 @@
 #![tactic(auto)]
 
 mod acl;
-#[cfg(test)]
-mod tests;
 
 pub use acl::{TimeRule, TimeRuleList, TimeWindow, TimeWindowAcl, TimeWindowList};
 pub use listing::Moment;

@@ -13,8 +13,6 @@ mod list;
 mod pass;
 mod plays;
 mod stands;
-#[cfg(test)]
-mod tests;
 mod turn;
 mod view;
 

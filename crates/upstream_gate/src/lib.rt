@@ -8,8 +8,6 @@ mod got;
 mod memory_gate;
 mod outcome;
 mod plan;
-#[cfg(test)]
-mod tests;
 
 pub use ask::Ask;
 pub use gate::Gate;

@@ -4,12 +4,12 @@
 # It ends with status 1 where one of the three takes more than 1.3 times as much with 1,000,000 objects as with 100, or the
 # memory is more than 1.7 times the bodies. Needs valgrind and python3, and some five minutes.
 set -euo pipefail
-cd "$(dirname "$0")/../crates/cache_bench"
+cd "$(dirname "$0")/../crates/measures"
 source ../../bench/counting.sh
 rt run > /dev/null 2>&1
 
 # Arguments: what is done, how many objects are kept, and how often.
-count() { instructions out/cache_bench "$1" "$2" 1 "$3"; }
+count() { instructions out/measures objects "$1" "$2" 1 "$3"; }
 
 # what making 1,000 keys takes, and making 10,000 objects
 keys=$(($(count 0 100 0) - $(count 2 100 0)))
@@ -32,7 +32,7 @@ within "a fill" "$filled" "$most_filled"
 # the peak of the whole program in kB
 peak=$(python3 -c '
 import resource, subprocess
-subprocess.run(["out/cache_bench", "0", "100000", "1024", "1"], check=True, stdout=subprocess.DEVNULL)
+subprocess.run(["out/measures", "objects", "0", "100000", "1024", "1"], check=True, stdout=subprocess.DEVNULL)
 print(resource.getrusage(resource.RUSAGE_CHILDREN).ru_maxrss)')
 echo "100,000 objects of 1,024 bytes take $((peak * 1024 / 100000)) bytes of memory each"
 within "memory as a multiple of the bodies, in tenths" "$((peak * 10 / 100000))" 17

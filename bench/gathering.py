@@ -90,14 +90,14 @@ def configure(room):
 def run(program, *words):
     """The seconds of a run, and how many documents it tells."""
     began = time.perf_counter()
-    said = subprocess.run([program, *words], stdout=subprocess.PIPE, text=True, check=True).stdout
+    said = subprocess.run([program, "gathering", *words], stdout=subprocess.PIPE, text=True, check=True).stdout
     took = time.perf_counter() - began
     return took, int(said.removesuffix(" documents\n"))
 
 
 def peak_of(program, *words):
     """The peak of a run's memory in bytes: what the system tells last, asked for all the time until the run ends."""
-    process = subprocess.Popen([program, *words], stdout=subprocess.DEVNULL)
+    process = subprocess.Popen([program, "gathering", *words], stdout=subprocess.DEVNULL)
     peak = 0
     while process.poll() is None:
         with open(f"/proc/{process.pid}/status") as status:

@@ -6,7 +6,7 @@
 # Usage: bench/gathering.sh   (needs nginx and python3: apt-get install nginx-light; builds the program where it is not built)
 set -eu
 cd "$(dirname "$0")/.."
-program=$PWD/crates/gather_bench/out/gather_bench
-[[ -x $program ]] || (cd crates/gather_bench && rt run >/dev/null)
+program=$PWD/crates/measures/out/measures
+[[ -x $program ]] || (cd crates/measures && rt run >/dev/null)
 command -v nginx >/dev/null || { echo "nginx is missing" >&2; exit 2; }
 exec python3 bench/gathering.py "$program"

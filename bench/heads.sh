@@ -4,15 +4,15 @@
 # of two runs. It ends with status 1 where a head of 36 or 500 bytes takes more than 2.0 times what `httparse` takes, a head that
 # is put more than 1,500 instructions, or a byte of a chunked body more than 0.5 beside the copy.
 set -euo pipefail
-cd "$(dirname "$0")/../crates/head_bench"
+cd "$(dirname "$0")/../crates/measures"
 source ../../bench/counting.sh
 rt run > /dev/null 2>&1
 
 # The instructions of one round: the difference of two runs. Arguments: what is done, and how often in the longer run.
 one_round() {
     local more less
-    more=$(instructions out/head_bench "$1" "$2")
-    less=$(instructions out/head_bench "$1" $(($2 / 2)))
+    more=$(instructions out/measures heads "$1" "$2")
+    less=$(instructions out/measures heads "$1" $(($2 / 2)))
     echo $(((more - less) / ($2 - $2 / 2)))
 }
 

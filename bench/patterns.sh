@@ -2,7 +2,7 @@
 # Instructions for each unit of a text that a pattern takes, as the slope between texts of two lengths, counted under
 # callgrind. It ends with status 1 where a unit takes more than 60.
 set -euo pipefail
-cd "$(dirname "$0")/../crates/pattern_bench"
+cd "$(dirname "$0")/../crates/measures"
 source ../../bench/counting.sh
 rt run > /dev/null 2>&1
 
@@ -10,8 +10,8 @@ rt run > /dev/null 2>&1
 # and the length of the text.
 one_match() {
     local more less
-    more=$(instructions out/pattern_bench "$1" "$2" 200)
-    less=$(instructions out/pattern_bench "$1" "$2" 100)
+    more=$(instructions out/measures patterns "$1" "$2" 200)
+    less=$(instructions out/measures patterns "$1" "$2" 100)
     echo $(((more - less) / 100))
 }
 

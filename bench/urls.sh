@@ -2,15 +2,15 @@
 # Instructions for each byte of a URL that is read as a target, as the slope between URLs of two lengths, and for an HTTP
 # date, counted under callgrind. It ends with status 1 where a byte takes more than 8, or a date more than 600.
 set -euo pipefail
-cd "$(dirname "$0")/../crates/url_bench"
+cd "$(dirname "$0")/../crates/measures"
 source ../../bench/counting.sh
 rt run > /dev/null 2>&1
 
 # The instructions of one round: the difference of 200 and 100 rounds. Arguments: what is done, and the length of the URL.
 one_round() {
     local more less
-    more=$(instructions out/url_bench "$1" "$2" 200)
-    less=$(instructions out/url_bench "$1" "$2" 100)
+    more=$(instructions out/measures urls "$1" "$2" 200)
+    less=$(instructions out/measures urls "$1" "$2" 100)
     echo $(((more - less) / 100))
 }
 

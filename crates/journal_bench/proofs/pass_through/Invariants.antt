@@ -1,9 +1,0 @@
-use Rattle.std.proofs.Common.{◌≡◌, ◌+◌, ◌≤◌, length}
-use Rattle.journal_bench.proofs.pass_through.Given as goal
-
--- the places that are left, and how many entries are stored
-abbrev pub invariant-entries : goal.invariant-entries
-invariant-entries l = record {
-  spare : l.count ≤ l.journal.spare + l.number;
-  stored : length l.journal.stored ≡ length l.initial.journal.stored;
-}

@@ -1,0 +1,5 @@
+use Rattle.turn_cell.specs.Cell.{taken}
+use Rattle.measures.proofs.tally.count_turn.Given as goal
+
+abbrev pub ghost-give : goal.ghost-give
+ghost-give g a = taken a.self

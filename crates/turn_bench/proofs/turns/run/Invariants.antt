@@ -1,5 +1,0 @@
-use Rattle.turn_cell.specs.Cell.{taken}
-use Rattle.turn_bench.proofs.turns.run.Given as goal
-
-abbrev pub ghost-give : goal.ghost-give
-ghost-give g a = taken a.self

@@ -1,0 +1,21 @@
+#!/usr/bin/env bash
+# Tries the wrong bodies of wrong-bodies/CRATE/, which the prover has to refuse as those of crates/CRATE/must-fail/: the gate tries a few of
+# each crate alone, since each takes some 20 seconds. They stand in the crate's must-fail/ while they are tried, and then are put back.
+# It ends with status 1 where one is not refused. Needs the crate's libraries, which it proves where they are not; some three hours for all.
+# Usage: bench/wrong-bodies.sh [CRATE..]   (all crates where none is named)
+set -eu
+cd "$(dirname "$0")/.."
+[[ $# -gt 0 ]] || set -- $(ls wrong-bodies)
+put_back() {
+  [[ ! -d $room/gate ]] || { rm -rf "crates/$crate/must-fail"; mv "$room/gate" "crates/$crate/must-fail"; }
+}
+room=$(mktemp -d)
+trap 'put_back; rm -rf "$room"' EXIT
+missed=0
+for crate in "$@"; do
+  mv "crates/$crate/must-fail" "$room/gate"
+  cp -r "wrong-bodies/$crate" "crates/$crate/must-fail"
+  rt must-fail "$crate" || missed=1
+  put_back
+done
+exit "$missed"

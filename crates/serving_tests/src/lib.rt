@@ -2,8 +2,4 @@
 #![tactic(auto)]
 
 #[cfg(test)]
-mod many_workers;
-#[cfg(test)]
-mod one_connection;
-#[cfg(test)]
 mod tests;

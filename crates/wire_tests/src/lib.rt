@@ -1,4 +1,5 @@
-//! Tests of messages of HTTP, of exchanges with origins and of metadata that is gathered. There is no code beside them.
+//! Tests of real streams and clocks, of messages of HTTP, of exchanges with origins and of metadata that is gathered. There
+//! is no code beside them.
 #![tactic(auto)]
 
 #[cfg(test)]
@@ -7,3 +8,5 @@ mod exchanges;
 mod links;
 #[cfg(test)]
 mod messages;
+#[cfg(test)]
+mod streams;

@@ -459,14 +459,21 @@ fn put_more_statuses(out: &mut Vec<u8>, statuses: &[JobStatus]) -> Result<(), Al
     Ok(())
 }
 
+// a word with its space, what stands behind it, and the end of the line
+fn put_line(out: &mut Vec<u8>, word: &[u8], rest: &[u8]) -> Result<(), AllocError>
+    ensures { OnOk result (out.new.items ≡ out.old.items ++ (word.now ++ rest.now ++ LINE_FEED ∷ [])) }
+{
+    put(out, word)?;
+    put(out, rest)?;
+    put_byte(out, LINE_FEED)
+}
+
 fn put_resource(alloc: Global, out: &mut Vec<u8>, job: &Job) -> Result<(), AllocError>
     ensures { OnOk result (out.new.items ≡ out.old.items ++
         (codes "resource " ++ job_text job.now ++ LINE_FEED ∷ [])) }
 {
     let json = job_json(alloc, job)?;
-    put(out, b"resource ")?;
-    put(out, json.bytes())?;
-    put_byte(out, LINE_FEED)
+    put_line(out, b"resource ", json.bytes())
 }
 
 fn put_collection(
@@ -479,9 +486,7 @@ fn put_collection(
         (codes "collection " ++ scripted_collection filter ids.now ++ LINE_FEED ∷ [])) }
 {
     let json = scripted_collection(alloc, filter, ids)?;
-    put(out, b"collection ")?;
-    put(out, json.bytes())?;
-    put_byte(out, LINE_FEED)
+    put_line(out, b"collection ", json.bytes())
 }
 
 // the collection of the triggers of a script

@@ -1,10 +1,12 @@
 //! JSON texts and the fields of their values, by both readers.
 
 use crate::json_call::{Call, Name, at_item, at_member, called};
-use crate::readers::{is_borrowed_json, is_json, readers_agree};
 use crate::{escape, fields};
 use anyhow::bail;
-use json_read::{JsonFault, JsonPath, JsonScratch, JsonValue, parse, parse_borrowed};
+use json_read::{
+    JsonFault, JsonPath, JsonScratch, JsonValue, is_borrowed_json, is_json, parse, parse_borrowed,
+    readers_agree,
+};
 use std::alloc::{AllocError, Global};
 
 /// The answer, where the call is of a kind of this module.

@@ -11,7 +11,6 @@ mod json_call;
 mod keys;
 mod metadata;
 mod places;
-mod readers;
 mod rules;
 mod tables;
 mod urls;

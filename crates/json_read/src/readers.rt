@@ -3,7 +3,10 @@
 ghost use Rattle.std.specs.Prelude.{◌≡◌, IfOk, is_some, true};
 ghost use Rattle.json_read.specs.Text.{json_of};
 
-use json_read::{JsonScratch, ParseFault, parse, parse_borrowed};
+use crate::borrowed::parse_borrowed;
+use crate::fault::ParseFault;
+use crate::text::parse;
+use json::Scratch as JsonScratch;
 use std::alloc::{AllocError, Global};
 
 /// Whether the reader into values that own their texts takes the bytes for a JSON text.

@@ -1,11 +1,12 @@
 //! `serve_door` over TCP: clients, a node with its door and its gate, and an origin, all in one process.
 
+use cdni_base::{Endpoint, Limits, Protocol, ProviderId, Target, Text, TextList};
 use doors::{Door, DoorEnd, Outside, Worker, serve_door};
 use edge_base::{Clock, MemorySink, Status, WallClock};
 use http_node::serve_main;
 use location_acl::PlaceTable;
-use node_core::OneHome;
-use session::Settings;
+use node_core::{Node, OneHome};
+use session::{AdvertSettings, Settings};
 use std::alloc::Global;
 use std::io::{Read, Write};
 use std::net::{Net, Shutdown, SocketAddr, TcpListener, TcpStream};
@@ -18,7 +19,6 @@ use std::time::Duration;
 use std::{io, thread, time};
 use tcp_door::{StdOutside, TcpDoor, TcpGate, WAITS, Waits};
 use upstream_gate::Gate;
-use worker_tests::{home, settings_at};
 
 const GET: &[u8] = b"GET /a HTTP/1.1\r\nHost: v.example\r\n\r\n";
 
@@ -178,6 +178,20 @@ fn origin(alloc: Global, listener: &TcpListener, document: &[u8]) -> io::Result<
         say(&stream, body)?;
     }
     Ok(count)
+}
+
+// the settings of a node whose metadata is at this URL
+pub(crate) fn settings_at(alloc: Global, root: &[u8]) -> Result<Settings, Fail> {
+    Ok(Settings {
+        protocol: Protocol::Http,
+        control: Endpoint::read(alloc, b"control.example")
+            .ok()
+            .ok_or("host")?
+            .host,
+        root: Target::read(alloc, root, None, false).ok().ok_or("URL")?,
+        own: ProviderId::read(alloc, b"AS64496:0").ok().ok_or("id")?,
+        advert: AdvertSettings::new(Protocol::Http, TextList::new(alloc)).ok_or("footprints")?,
+    })
 }
 
 // the settings of a node whose metadata is at the origin
@@ -381,6 +395,13 @@ fn document_of(alloc: Global, port: u16) -> Result<String, Fail> {
     Ok(format!(in alloc;
         "{{\"hosts\":[{{\"host\":\"v.example\",\"host-metadata\":{{\"metadata\":[{{\"generic-metadata-type\":\"MI.SourceMetadata\",\"generic-metadata-value\":{{\"sources\":[{{\"endpoints\":[\"127.0.0.1:{port}\"],\"protocol\":\"http/1.1\"}}]}}}}]}}}}]}}"
     )?)
+}
+
+// a home over a node of its own
+pub(crate) fn home(alloc: Global) -> Result<OneHome, Fail> {
+    let origin = Text::of(alloc, b"dcdn.example")?;
+    let node = Node::new(alloc, &Limits::standard(), origin)?;
+    Ok(OneHome { node, number: 0 })
 }
 
 // what came of all of this at once: the clients, the origin and the worker

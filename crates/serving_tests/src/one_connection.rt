@@ -2,7 +2,7 @@
 
 ghost use Rattle.std.specs.Prelude.{◌≡◌};
 
-use crate::node::{home, settings_at};
+use crate::tests::{home, settings_at};
 use cdni_base::{Body, TypeName};
 use edge_base::{ListClock, MemorySource, Put, Sink};
 use location_acl::{Ip, Place};

@@ -90,27 +90,39 @@ fn pair(value: &Value) -> anyhow::Result<(&Value, u64)> {
     Ok((&items[0], number_of(&items[1])?))
 }
 
+// Adds the text of a pair, as often as the pair says.
+fn add_repeated(bytes: &mut Vec<u8>, item: &Value) -> anyhow::Result<()> {
+    let (text, times) = pair(item)?;
+    for _ in 0..times {
+        add_bytes(bytes, text)?;
+    }
+    Ok(())
+}
+
 // Texts in pairs with how often each comes, joined.
 pub fn joined(alloc: Global, value: &Value, name: &str) -> anyhow::Result<Vec<u8>> {
     let mut bytes = Vec::new(alloc);
     for item in list(value, name)? {
-        let (text, times) = pair(item)?;
-        for _ in 0..times {
-            add_bytes(&mut bytes, text)?;
-        }
+        add_repeated(&mut bytes, item)?;
     }
     Ok(bytes)
+}
+
+// Adds the number of a pair, as often as the pair says.
+fn add_numbers(numbers: &mut Vec<u64>, item: &Value) -> anyhow::Result<()> {
+    let (number, times) = pair(item)?;
+    let number = number_of(number)?;
+    for _ in 0..times {
+        numbers.push(number)?;
+    }
+    Ok(())
 }
 
 // Numbers in pairs with how often each comes.
 pub fn numbers(alloc: Global, value: &Value, name: &str) -> anyhow::Result<Vec<u64>> {
     let mut numbers = Vec::new(alloc);
     for item in list(value, name)? {
-        let (number, times) = pair(item)?;
-        let number = number_of(number)?;
-        for _ in 0..times {
-            numbers.push(number)?;
-        }
+        add_numbers(&mut numbers, item)?;
     }
     Ok(numbers)
 }

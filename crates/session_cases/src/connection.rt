@@ -14,26 +14,38 @@ use std::sync::Wait;
 use std::thread::Threads;
 use upstream_gate::MemoryGate;
 
+// The network of the client, where it is known.
+fn asn_of(value: &Value) -> anyhow::Result<Option<u32>> {
+    let Some(number) = field::get(value, "asn")?.as_u64() else {
+        return Ok(None);
+    };
+    match u32::try_from(number) {
+        Ok(number) => Ok(Some(number)),
+        Err(_) => bail!("a number is too large"),
+    }
+}
+
+// The country of the client, where it is known.
+fn country_of(value: &Value) -> anyhow::Result<Option<(u8, u8)>> {
+    let Some(text) = field::get(value, "country")?.as_str() else {
+        return Ok(None);
+    };
+    match text.as_bytes() {
+        [first, second] => Ok(Some((*first, *second))),
+        _ => bail!("a country has two letters"),
+    }
+}
+
 // The place of the client.
 fn place_of(value: &Value) -> anyhow::Result<Place> {
     let Ok(ip) = Ip::read(field::text(value, "ip")?.as_bytes()) else {
         bail!("an address does not read");
     };
-    let asn = match field::get(value, "asn")?.as_u64() {
-        Some(number) => match u32::try_from(number) {
-            Ok(number) => Some(number),
-            Err(_) => bail!("a number is too large"),
-        },
-        None => None,
-    };
-    let country = match field::get(value, "country")?.as_str() {
-        Some(text) => match text.as_bytes() {
-            [first, second] => Some((*first, *second)),
-            _ => bail!("a country has two letters"),
-        },
-        None => None,
-    };
-    Ok(Place { ip, asn, country })
+    Ok(Place {
+        ip,
+        asn: asn_of(value)?,
+        country: country_of(value)?,
+    })
 }
 
 // Whether the connection ended as it was to.

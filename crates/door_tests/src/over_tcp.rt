@@ -66,6 +66,19 @@ fn hears(stream: &TcpStream, alloc: Global, bytes: &[u8]) -> bool {
     }
 }
 
+// one more where it holds
+fn one_if(holds: bool) -> u64 {
+    u64::from(holds)
+}
+
+// one where these bytes are sent, and this answer comes next
+fn asks(stream: &TcpStream, alloc: Global, bytes: &[u8], answer: &[u8]) -> u64 {
+    match say(stream, bytes) {
+        Ok(()) => one_if(hears(stream, alloc, answer)),
+        Err(_) => 0,
+    }
+}
+
 // whether the end comes next, within two seconds
 fn ends(stream: &TcpStream) -> bool {
     let mut buf = [0u8; 16];
@@ -188,7 +201,7 @@ fn serve_one<R: Threads + Wait + Sync, W: Wait + Clock + Clone + Send + Drop>(
     }
 }
 
-// what the first client does: kept alive, pipelined, in pieces, half closed, and bytes that are no head
+// what the first client does: kept alive, pipelined, and in pieces
 fn first_client<N: Net<Stream = TcpStream> + Clock>(
     net: &N,
     alloc: Global,
@@ -197,53 +210,59 @@ fn first_client<N: Net<Stream = TcpStream> + Clock>(
     let mut good = 0u64;
     let kept = dial(net, addr)?;
     for _ in 0..3 {
-        say(&kept, GET)?;
-        good = good.saturating_add(u64::from(hears(&kept, alloc, OK)));
+        good = good.saturating_add(asks(&kept, alloc, GET, OK));
     }
     for _ in 0..3 {
         say(&kept, GET)?;
     }
     for _ in 0..3 {
-        good = good.saturating_add(u64::from(hears(&kept, alloc, OK)));
+        good = good.saturating_add(one_if(hears(&kept, alloc, OK)));
     }
-    say(&kept, &GET[..10])?;
-    thread::sleep(net, Duration::from_millis(20));
-    say(&kept, &GET[10..20])?;
-    thread::sleep(net, Duration::from_millis(20));
-    say(&kept, &GET[20..])?;
-    good = good.saturating_add(u64::from(hears(&kept, alloc, OK)));
-    say(&kept, b"POST / HTTP/1.1\r\nContent-Length: 5\r\n\r\nab")?;
-    thread::sleep(net, Duration::from_millis(20));
-    say(&kept, b"cde")?;
-    good = good.saturating_add(u64::from(hears(&kept, alloc, OK)));
-    say(&kept, LAST)?;
-    good = good.saturating_add(u64::from(hears(&kept, alloc, OK)));
-    good = good.saturating_add(u64::from(ends(&kept)));
-    Ok(good)
+    good = good.saturating_add(pieces(net, alloc, &kept)?);
+    good = good.saturating_add(asks(&kept, alloc, LAST, OK));
+    Ok(good.saturating_add(one_if(ends(&kept))))
 }
 
-fn second_client<N: Net<Stream = TcpStream> + Clock>(
+// a head and a body in pieces
+fn pieces<N: Clock>(net: &N, alloc: Global, kept: &TcpStream) -> io::Result<u64> {
+    say(kept, &GET[..10])?;
+    thread::sleep(net, Duration::from_millis(20));
+    say(kept, &GET[10..20])?;
+    thread::sleep(net, Duration::from_millis(20));
+    let head = asks(kept, alloc, &GET[20..], OK);
+    say(kept, b"POST / HTTP/1.1\r\nContent-Length: 5\r\n\r\nab")?;
+    thread::sleep(net, Duration::from_millis(20));
+    Ok(head.saturating_add(asks(kept, alloc, b"cde", OK)))
+}
+
+// what the second client does: bytes that are no head, and connections that are half closed
+fn second_client<N: Net<Stream = TcpStream>>(
     net: &N,
     alloc: Global,
     addr: SocketAddr,
 ) -> io::Result<u64> {
-    let mut good = 0u64;
     let odd = dial(net, addr)?;
-    say(&odd, b"(")?;
-    good = good.saturating_add(u64::from(hears(&odd, alloc, BAD)));
-    good = good.saturating_add(u64::from(ends(&odd)));
+    let mut good = asks(&odd, alloc, b"(", BAD);
+    good = good.saturating_add(one_if(ends(&odd)));
     let nothing = dial(net, addr)?;
     nothing.shutdown(Shutdown::Write)?;
-    good = good.saturating_add(u64::from(ends(&nothing)));
+    good = good.saturating_add(one_if(ends(&nothing)));
     let feeds = dial(net, addr)?;
-    say(&feeds, &[10u8; 70])?;
-    good = good.saturating_add(u64::from(hears(&feeds, alloc, BAD)));
+    good = good.saturating_add(asks(&feeds, alloc, &[10u8; 70], BAD));
+    Ok(good.saturating_add(half_client(net, alloc, addr)?))
+}
+
+// a request that is half closed
+fn half_client<N: Net<Stream = TcpStream>>(
+    net: &N,
+    alloc: Global,
+    addr: SocketAddr,
+) -> io::Result<u64> {
     let half = dial(net, addr)?;
     say(&half, GET)?;
     half.shutdown(Shutdown::Write)?;
-    good = good.saturating_add(u64::from(hears(&half, alloc, OK)));
-    good = good.saturating_add(u64::from(ends(&half)));
-    Ok(good)
+    let good = one_if(hears(&half, alloc, OK));
+    Ok(good.saturating_add(one_if(ends(&half))))
 }
 
 #[test]
@@ -293,41 +312,27 @@ const QUICK: Waits = Waits {
     tick: 50,
 };
 
-// one more where it holds
-fn one_if(holds: bool) -> u64 {
-    u64::from(holds)
-}
-
 // half-sent heads take no worker, and a kept connection makes way for another
 fn shy_clients<N: Net<Stream = TcpStream> + Clock>(
     net: &N,
     alloc: Global,
     addr: SocketAddr,
 ) -> io::Result<u64> {
-    let mut good = 0u64;
     let shy = dial(net, addr)?;
     say(&shy, &GET[..5])?;
     thread::sleep(net, Duration::from_millis(30));
     let kept = dial(net, addr)?;
-    say(&kept, GET)?;
-    good = good.saturating_add(one_if(hears(&kept, alloc, OK)));
+    let mut good = asks(&kept, alloc, GET, OK);
     say(&shy, &GET[5..10])?;
     thread::sleep(net, Duration::from_millis(30));
-    say(&kept, GET)?;
-    good = good.saturating_add(one_if(hears(&kept, alloc, OK)));
-    say(&shy, &GET[10..])?;
-    good = good.saturating_add(one_if(hears(&shy, alloc, OK)));
+    good = good.saturating_add(asks(&kept, alloc, GET, OK));
+    good = good.saturating_add(asks(&shy, alloc, &GET[10..], OK));
     for _ in 0..20 {
-        say(&kept, GET)?;
-        good = good.saturating_add(one_if(hears(&kept, alloc, OK)));
-        say(&shy, GET)?;
-        good = good.saturating_add(one_if(hears(&shy, alloc, OK)));
+        good = good.saturating_add(asks(&kept, alloc, GET, OK));
+        good = good.saturating_add(asks(&shy, alloc, GET, OK));
     }
-    say(&kept, LAST)?;
-    good = good.saturating_add(one_if(hears(&kept, alloc, OK)));
-    say(&shy, LAST)?;
-    good = good.saturating_add(one_if(hears(&shy, alloc, OK)));
-    Ok(good)
+    good = good.saturating_add(asks(&kept, alloc, LAST, OK));
+    Ok(good.saturating_add(asks(&shy, alloc, LAST, OK)))
 }
 
 #[test]
@@ -412,7 +417,7 @@ fn idle_connections_take_no_worker(rt: HostRuntime) -> Result<(), Fail> {
     Ok(())
 }
 
-// connections that wait too long, while another asks all the time, and then while none does
+// connections that wait too long while another asks all the time
 fn late_clients<N: Net<Stream = TcpStream> + Clock>(
     net: &N,
     alloc: Global,
@@ -424,35 +429,52 @@ fn late_clients<N: Net<Stream = TcpStream> + Clock>(
     say(&half, &GET[..20])?;
     let busy = dial(net, addr)?;
     for _ in 0..200 {
-        say(&busy, GET)?;
-        good = good.saturating_add(one_if(hears(&busy, alloc, OK)));
+        good = good.saturating_add(asks(&busy, alloc, GET, OK));
         thread::sleep(net, Duration::from_millis(3));
     }
     idle.set_nonblocking(true)?;
     half.set_nonblocking(true)?;
     good = good.saturating_add(one_if(ends(&idle)));
     good = good.saturating_add(one_if(ends(&half)));
-    good = good.saturating_add(one_if(ends(&busy)));
+    Ok(good.saturating_add(one_if(ends(&busy))))
+}
+
+// connections that wait too long while none asks
+fn waiting_clients<N: Net<Stream = TcpStream>>(net: &N, addr: SocketAddr) -> io::Result<u64> {
     let idle = dial(net, addr)?;
     let half = dial(net, addr)?;
     say(&half, &GET[..20])?;
-    good = good.saturating_add(one_if(ends(&idle)));
-    good = good.saturating_add(one_if(ends(&half)));
+    let good = one_if(ends(&idle));
+    Ok(good.saturating_add(one_if(ends(&half))))
+}
+
+// a head that comes a byte every two milliseconds
+fn dripping_client<N: Net<Stream = TcpStream> + Clock>(
+    net: &N,
+    alloc: Global,
+    addr: SocketAddr,
+) -> io::Result<u64> {
     let dripping = dial(net, addr)?;
-    say(&dripping, GET)?;
-    good = good.saturating_add(one_if(hears(&dripping, alloc, OK)));
+    let good = asks(&dripping, alloc, GET, OK);
     say(&dripping, &GET[..20])?;
     for _ in 0..300 {
         if say(&dripping, b"a").is_err() {
-            good = good.saturating_add(1);
-            break;
+            return Ok(good.saturating_add(1));
         }
         thread::sleep(net, Duration::from_millis(2));
     }
-    let last = dial(net, addr)?;
-    say(&last, LAST)?;
-    good = good.saturating_add(one_if(hears(&last, alloc, OK)));
     Ok(good)
+}
+
+// a client whose connection this request ends
+fn last_client<N: Net<Stream = TcpStream>>(
+    net: &N,
+    alloc: Global,
+    addr: SocketAddr,
+    answer: &[u8],
+) -> io::Result<u64> {
+    let last = dial(net, addr)?;
+    Ok(asks(&last, alloc, LAST, answer))
 }
 
 #[test]
@@ -469,7 +491,11 @@ fn late_connections_are_closed(rt: HostRuntime) -> Result<(), Fail> {
     let (served, good) = join(
         &rt,
         || serve_until(&rt, alloc, door, 202, OK),
-        || late_clients(&rt, alloc, addr).unwrap_or(0),
+        || late_clients(&rt, alloc, addr)
+            .unwrap_or(0)
+            .saturating_add(waiting_clients(&rt, addr).unwrap_or(0))
+            .saturating_add(dripping_client(&rt, alloc, addr).unwrap_or(0))
+            .saturating_add(last_client(&rt, alloc, addr, OK).unwrap_or(0)),
     );
     assert_eq!(rt; good, 208);
     assert_eq!(rt;
@@ -483,23 +509,25 @@ fn late_connections_are_closed(rt: HostRuntime) -> Result<(), Fail> {
     Ok(())
 }
 
-// a client that sends a body slowly, one whose body is too large, one that does not read, and one that does
-fn slow_clients<N: Net<Stream = TcpStream> + Clock>(
-    net: &N,
-    alloc: Global,
-    addr: SocketAddr,
-    answer: &[u8],
-) -> io::Result<u64> {
-    let mut good = 0u64;
+// a client that sends a body slowly
+fn slow_client<N: Net<Stream = TcpStream> + Clock>(net: &N, addr: SocketAddr) -> io::Result<u64> {
     let slow = dial(net, addr)?;
     say(&slow, b"POST / HTTP/1.1\r\nContent-Length: 100000\r\n\r\n")?;
     for _ in 0..100 {
         if say(&slow, b"a").is_err() {
-            good = good.saturating_add(1);
-            break;
+            return Ok(1);
         }
         thread::sleep(net, Duration::from_millis(10));
     }
+    Ok(0)
+}
+
+// a client whose body is too large
+fn large_client<N: Net<Stream = TcpStream> + Clock>(
+    net: &N,
+    alloc: Global,
+    addr: SocketAddr,
+) -> io::Result<u64> {
     let large = dial(net, addr)?;
     say(
         &large,
@@ -509,18 +537,22 @@ fn slow_clients<N: Net<Stream = TcpStream> + Clock>(
         say(&large, &[97u8; 1000])?;
         thread::sleep(net, Duration::from_millis(1));
     }
-    good = good.saturating_add(one_if(hears(&large, alloc, LARGE)));
-    good = good.saturating_add(one_if(ends(&large)));
-    drop(large);
+    let good = one_if(hears(&large, alloc, LARGE));
+    Ok(good.saturating_add(one_if(ends(&large))))
+}
+
+// a client that does not read
+fn deaf_client<N: Net<Stream = TcpStream> + Clock>(
+    net: &N,
+    alloc: Global,
+    addr: SocketAddr,
+    answer: &[u8],
+) -> io::Result<u64> {
     let deaf = dial(net, addr)?;
     say(&deaf, GET)?;
     thread::sleep(net, Duration::from_millis(1_000));
     let heard = hear(&deaf, alloc, answer.len())?;
-    good = good.saturating_add(one_if(heard.len() < answer.len()));
-    let fast = dial(net, addr)?;
-    say(&fast, LAST)?;
-    good = good.saturating_add(one_if(hears(&fast, alloc, answer)));
-    Ok(good)
+    Ok(one_if(heard.len() < answer.len()))
 }
 
 #[test]
@@ -540,7 +572,11 @@ fn slow_clients_are_given_up(rt: HostRuntime) -> Result<(), Fail> {
     let (served, good) = join(
         &rt,
         || serve_until(&rt, alloc, door, 4, answer),
-        || slow_clients(&rt, alloc, addr, answer).unwrap_or(0),
+        || slow_client(&rt, addr)
+            .unwrap_or(0)
+            .saturating_add(large_client(&rt, alloc, addr).unwrap_or(0))
+            .saturating_add(deaf_client(&rt, alloc, addr, answer).unwrap_or(0))
+            .saturating_add(last_client(&rt, alloc, addr, answer).unwrap_or(0)),
     );
     assert_eq!(rt; good, 5);
     assert_eq!(rt;

@@ -220,6 +220,14 @@ fn serve<R: Threads + Wait + Sync, N: Net<Stream = TcpStream>, D: Door, G: Gate,
     end
 }
 
+// one where these bytes are sent, and the content comes next
+fn asks(stream: &TcpStream, alloc: Global, bytes: &[u8]) -> u64 {
+    match say(stream, bytes) {
+        Ok(()) => gets(stream, alloc),
+        Err(_) => 0,
+    }
+}
+
 // a connection that is kept: requests one by one, at once and in pieces
 fn kept_client<N: Net<Stream = TcpStream> + time::Clock>(
     net: &N,
@@ -229,8 +237,7 @@ fn kept_client<N: Net<Stream = TcpStream> + time::Clock>(
     let mut good = 0u64;
     let kept = dial(net, addr)?;
     for _ in 0..3 {
-        say(&kept, GET)?;
-        good = good.saturating_add(gets(&kept, alloc));
+        good = good.saturating_add(asks(&kept, alloc, GET));
     }
     for _ in 0..3 {
         say(&kept, GET)?;
@@ -240,28 +247,39 @@ fn kept_client<N: Net<Stream = TcpStream> + time::Clock>(
     }
     say(&kept, &GET[..10])?;
     thread::sleep(net, Duration::from_millis(20));
-    say(&kept, &GET[10..])?;
-    good = good.saturating_add(gets(&kept, alloc));
-    say(&kept, LAST)?;
-    good = good.saturating_add(gets(&kept, alloc));
-    Ok(good)
+    good = good.saturating_add(asks(&kept, alloc, &GET[10..]));
+    Ok(good.saturating_add(asks(&kept, alloc, LAST)))
 }
 
-// a request that is half closed, bytes that are no head, a body that is too large, and a crowd that says nothing
-fn odd_clients<N: Net<Stream = TcpStream> + time::Clock>(
+// a request that is half closed
+fn half_client<N: Net<Stream = TcpStream>>(
     net: &N,
     alloc: Global,
     addr: SocketAddr,
 ) -> io::Result<u64> {
-    let mut good = 0u64;
     let half = dial(net, addr)?;
     say(&half, GET)?;
     half.shutdown(Shutdown::Write)?;
-    good = good.saturating_add(gets(&half, alloc));
+    Ok(gets(&half, alloc))
+}
+
+// bytes that are no head
+fn odd_client<N: Net<Stream = TcpStream>>(
+    net: &N,
+    alloc: Global,
+    addr: SocketAddr,
+) -> io::Result<u64> {
     let odd = dial(net, addr)?;
     say(&odd, b"(")?;
-    good = good.saturating_add(hears(&odd, alloc, b"HTTP/1.1 400 ", b""));
-    drop(odd);
+    Ok(hears(&odd, alloc, b"HTTP/1.1 400 ", b""))
+}
+
+// a body that is too large
+fn large_client<N: Net<Stream = TcpStream> + time::Clock>(
+    net: &N,
+    alloc: Global,
+    addr: SocketAddr,
+) -> io::Result<u64> {
     let large = dial(net, addr)?;
     say(
         &large,
@@ -271,18 +289,23 @@ fn odd_clients<N: Net<Stream = TcpStream> + time::Clock>(
         say(&large, &[97u8; 1000])?;
         thread::sleep(net, Duration::from_millis(1));
     }
-    good = good.saturating_add(hears(&large, alloc, b"HTTP/1.1 413 ", b""));
-    drop(large);
+    Ok(hears(&large, alloc, b"HTTP/1.1 413 ", b""))
+}
+
+// one that asks beside a crowd that says nothing
+fn crowded_client<N: Net<Stream = TcpStream>>(
+    net: &N,
+    alloc: Global,
+    addr: SocketAddr,
+) -> io::Result<u64> {
     let mut others = Vec::new(alloc);
     for _ in 0..100 {
         if others.push(dial(net, addr)?).is_err() {
-            return Ok(good);
+            return Ok(0);
         }
     }
     let asking = dial(net, addr)?;
-    say(&asking, LAST)?;
-    good = good.saturating_add(gets(&asking, alloc));
-    Ok(good)
+    Ok(asks(&asking, alloc, LAST))
 }
 
 // how many bytes come until the end, or until nothing comes for two seconds
@@ -300,13 +323,11 @@ fn hear_all(stream: &TcpStream) -> u64 {
     count
 }
 
-// a body that comes a byte every ten milliseconds, a client that asks for much and does not read, and one that reads
-fn slow_clients<N: Net<Stream = TcpStream> + time::Clock>(
+// a body that comes a byte every ten milliseconds
+fn slow_client<N: Net<Stream = TcpStream> + time::Clock>(
     net: &N,
-    alloc: Global,
     addr: SocketAddr,
 ) -> io::Result<u64> {
-    let mut good = 0u64;
     let slow = dial(net, addr)?;
     say(
         &slow,
@@ -314,20 +335,33 @@ fn slow_clients<N: Net<Stream = TcpStream> + time::Clock>(
     )?;
     for _ in 0..500 {
         if say(&slow, b"a").is_err() {
-            good = good.saturating_add(1);
-            break;
+            return Ok(1);
         }
         thread::sleep(net, Duration::from_millis(10));
     }
-    drop(slow);
+    Ok(0)
+}
+
+// a client that asks for much and does not read
+fn deaf_client<N: Net<Stream = TcpStream> + time::Clock>(
+    net: &N,
+    addr: SocketAddr,
+) -> io::Result<u64> {
     let deaf = dial(net, addr)?;
     for _ in 0..30 {
         say(&deaf, b"GET /large HTTP/1.1\r\nHost: v.example\r\n\r\n")?;
     }
     thread::sleep(net, Duration::from_millis(3_000));
     let heard = hear_all(&deaf);
-    good = good.saturating_add(u64::from(heard > 0 && heard < 30 * LARGE as u64));
-    drop(deaf);
+    Ok(u64::from(heard > 0 && heard < 30 * LARGE as u64))
+}
+
+// a client that reads
+fn fast_client<N: Net<Stream = TcpStream>>(
+    net: &N,
+    alloc: Global,
+    addr: SocketAddr,
+) -> io::Result<u64> {
     let fast = dial(net, addr)?;
     say(
         &fast,
@@ -335,10 +369,8 @@ fn slow_clients<N: Net<Stream = TcpStream> + time::Clock>(
     )?;
     let head = hear_head(&fast, alloc)?;
     let heard = hear_all(&fast);
-    good = good.saturating_add(u64::from(
-        head.as_slice().starts_with(b"HTTP/1.1 200 OK\r\n") && heard == LARGE as u64,
-    ));
-    Ok(good)
+    let is_good = head.as_slice().starts_with(b"HTTP/1.1 200 OK\r\n") && heard == LARGE as u64;
+    Ok(u64::from(is_good))
 }
 
 // one request over IPv6
@@ -379,11 +411,16 @@ fn clients<N: Net<Stream = TcpStream> + time::Clock>(
     ended: &AtomicU64,
 ) -> u64 {
     let good = match crowd {
-        Crowd::Mixed => {
-            let kept = kept_client(net, alloc, addr).unwrap_or(0);
-            kept.saturating_add(odd_clients(net, alloc, addr).unwrap_or(0))
-        }
-        Crowd::Slow => slow_clients(net, alloc, addr).unwrap_or(0),
+        Crowd::Mixed => kept_client(net, alloc, addr)
+            .unwrap_or(0)
+            .saturating_add(half_client(net, alloc, addr).unwrap_or(0))
+            .saturating_add(odd_client(net, alloc, addr).unwrap_or(0))
+            .saturating_add(large_client(net, alloc, addr).unwrap_or(0))
+            .saturating_add(crowded_client(net, alloc, addr).unwrap_or(0)),
+        Crowd::Slow => slow_client(net, addr)
+            .unwrap_or(0)
+            .saturating_add(deaf_client(net, addr).unwrap_or(0))
+            .saturating_add(fast_client(net, alloc, addr).unwrap_or(0)),
         Crowd::Six => six_clients(net, alloc, addr).unwrap_or(0),
     };
     let _ = more_clients(net, alloc, addr, ended);

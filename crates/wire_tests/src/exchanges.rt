@@ -48,6 +48,15 @@ fn exchanged(alloc: Global, bytes: &[u8], gives: &[u64], limit: u64) -> Result<S
     told(alloc, &outcome)
 }
 
+// the request of an exchange whose origin says nothing, by writes of some bytes
+fn request_to(alloc: Global, endpoint: &[u8]) -> Result<(Outcome, Vec<u8>), Fail> {
+    let mut source = MemorySource::new(alloc, b"", &[])?;
+    let mut sink = MemorySink::new(alloc, &[1, 2, 3])?;
+    let ask = ask_of(alloc, endpoint)?;
+    let outcome = exchange(alloc, &mut source, &mut sink, &ask, 9);
+    Ok((outcome, sink.held().to_vec(alloc)?))
+}
+
 #[test]
 fn requests(rt: HostRuntime) -> Result<(), Fail> {
     let alloc = rt.alloc();
@@ -56,14 +65,11 @@ fn requests(rt: HostRuntime) -> Result<(), Fail> {
         (b"v.example:8080".as_slice(), "v.example:8080"),
         (b"[::1]:1".as_slice(), "[::1]:1"),
     ] {
-        let mut source = MemorySource::new(alloc, b"", &[])?;
-        let mut sink = MemorySink::new(alloc, &[1, 2, 3])?;
-        let ask = ask_of(alloc, endpoint)?;
-        let outcome = exchange(alloc, &mut source, &mut sink, &ask, 9);
+        let (outcome, request) = request_to(alloc, endpoint)?;
         assert!(rt; matches!(outcome, Outcome::Cut { taken: 0 }));
         let lines = "Accept-Encoding: identity\r\nConnection: close\r\n\r\n";
         let want = format!(in alloc; "GET /a?b HTTP/1.1\r\nHost: {host}\r\n{lines}")?;
-        assert_eq!(rt; sink.held(), want.as_bytes());
+        assert_eq!(rt; request.as_slice(), want.as_bytes());
     }
     Ok(())
 }
@@ -278,21 +284,27 @@ fn limits_of_heads(rt: HostRuntime) -> Result<(), Fail> {
     Ok(())
 }
 
+// how an exchange ends whose writes take these, and how many bytes the sink has then
+fn written_by(alloc: Global, bytes: &[u8], takes: &[u64]) -> Result<(Outcome, usize), Fail> {
+    let mut source = MemorySource::new(alloc, bytes, &[])?;
+    let mut sink = MemorySink::new(alloc, takes)?;
+    let ask = ask_of(alloc, b"v.example")?;
+    let outcome = exchange(alloc, &mut source, &mut sink, &ask, 5);
+    Ok((outcome, sink.held().len()))
+}
+
 #[test]
 fn faults_at_each_call(rt: HostRuntime) -> Result<(), Fail> {
     let alloc = rt.alloc();
     let bytes = b"HTTP/1.1 200 OK\r\nContent-Length: 5\r\n\r\nabcde";
-    let ask = ask_of(alloc, b"v.example")?;
     for good in [0usize, 1, 20, 40, 42] {
-        let mut gives = vec![in alloc; 1u64; good]?;
-        gives.push(0)?;
-        let told = exchanged(alloc, bytes, &gives, 5)?;
+        let mut calls = vec![in alloc; 1u64; good]?;
+        calls.push(0)?;
+        let told = exchanged(alloc, bytes, &calls, 5)?;
         assert_eq!(rt; told.as_str(), "failed");
-        let mut source = MemorySource::new(alloc, bytes, &[])?;
-        let mut sink = MemorySink::new(alloc, &gives)?;
-        let outcome = exchange(alloc, &mut source, &mut sink, &ask, 5);
+        let (outcome, held) = written_by(alloc, bytes, &calls)?;
         assert!(rt; matches!(outcome, Outcome::Failed));
-        assert_eq!(rt; sink.held().len(), good);
+        assert_eq!(rt; held, good);
     }
     Ok(())
 }

@@ -1,9 +1,10 @@
 // What no clause says: that reading succeeds where there is memory, on messages written out in full.
 use edge_base::MemorySource;
 use http_wire::{
-    BodyRead, HeadRead, Inbox, body_of, read_chunked, read_head, read_response_head, read_to_end,
+    BodyRead, Head, HeadRead, Inbox, body_of, read_chunked, read_head, read_response_head,
+    read_to_end,
 };
-use std::alloc::Global;
+use std::alloc::{AllocError, Global};
 use std::test::Fail;
 
 // a word and a number
@@ -12,24 +13,32 @@ fn numbered(alloc: Global, word: &str, number: u64) -> Result<Vec<u8>, Fail> {
     Ok(Vec::from_slice(alloc, text.as_bytes())?)
 }
 
-// the parts of the head that is read, each behind a bar, and what is kept behind it; or what the answer is
+// adds a header field, behind a bar
+fn add_field(text: &mut Vec<u8>, name: &[u8], value: &[u8]) -> Result<(), AllocError> {
+    text.extend_from_slice(b"|")?;
+    text.extend_from_slice(name)?;
+    text.extend_from_slice(b"=")?;
+    text.extend_from_slice(value)
+}
+
+// the parts of a head
+fn parts_told(alloc: Global, head: &Head) -> Result<Vec<u8>, Fail> {
+    let mut text = Vec::from_slice(alloc, head.method())?;
+    text.extend_from_slice(b" ")?;
+    text.extend_from_slice(head.target())?;
+    for i in 0..head.header_count() {
+        let header = head.header(i);
+        add_field(&mut text, header.name, header.value)?;
+    }
+    Ok(text)
+}
+
+// the parts of the head that is read, or what the answer is
 fn head_told(alloc: Global, bytes: &[u8], gives: &[u64]) -> Result<Vec<u8>, Fail> {
     let mut source = MemorySource::new(alloc, bytes, gives)?;
     let mut inbox = Inbox::new(alloc)?;
     match read_head(alloc, &mut source, &mut inbox) {
-        HeadRead::Head(head) => {
-            let mut text = Vec::from_slice(alloc, head.method())?;
-            text.extend_from_slice(b" ")?;
-            text.extend_from_slice(head.target())?;
-            for i in 0..head.header_count() {
-                let header = head.header(i);
-                text.extend_from_slice(b"|")?;
-                text.extend_from_slice(header.name)?;
-                text.extend_from_slice(b"=")?;
-                text.extend_from_slice(header.value)?;
-            }
-            Ok(text)
-        }
+        HeadRead::Head(head) => parts_told(alloc, &head),
         HeadRead::Ended => Ok(Vec::from_slice(alloc, b"ended")?),
         HeadRead::CutShort { taken } => numbered(alloc, "cut", taken),
         HeadRead::BadHead { taken } => numbered(alloc, "bad", taken),

@@ -116,7 +116,7 @@ fn put_line(
     ensures { OnOk result (out.new.items ≡ out.old.items ++ line pass moment words.now number rest.now) }
 {
     put_number(out, pass)?;
-    put(out, b" ")?;
+    out.push(b' ')?;
     put_number(out, moment)?;
     put(out, words)?;
     put_number(out, number)?;
@@ -129,9 +129,14 @@ fn put(out: &mut Vec<u8>, bytes: &[u8]) -> Result<(), AllocError>
     out.extend_from_slice(bytes)
 }
 
+// adds the digits of a number, of which there is often one
 fn put_number(out: &mut Vec<u8>, number: u32) -> Result<(), AllocError>
     ensures { OnOk result (out.new.items ≡ out.old.items ++ decimal number) }
 {
+    if number < 10 {
+        out.push(b'0' + number as u8)?;
+        return Ok(());
+    }
     let mut digits = Buffer::new();
     out.extend_from_slice(digits.format(number).as_bytes())
 }

@@ -7,13 +7,15 @@ set -eu
 cd "$(dirname "$0")/.."
 [[ $# -gt 0 ]] || set -- $(ls wrong-bodies)
 put_back() {
-  [[ ! -d $room/gate ]] || { rm -rf "crates/$crate/must-fail"; mv "$room/gate" "crates/$crate/must-fail"; }
+  [[ -z ${crate:-} ]] || rm -rf "crates/$crate/must-fail"
+  [[ ! -d $room/gate ]] || mv "$room/gate" "crates/$crate/must-fail"
+  crate=
 }
 room=$(mktemp -d)
 trap 'put_back; rm -rf "$room"' EXIT
 missed=0
 for crate in "$@"; do
-  mv "crates/$crate/must-fail" "$room/gate"
+  [[ ! -d crates/$crate/must-fail ]] || mv "crates/$crate/must-fail" "$room/gate"
   cp -r "wrong-bodies/$crate" "crates/$crate/must-fail"
   rt must-fail "$crate" || missed=1
   put_back

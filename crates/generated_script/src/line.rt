@@ -123,9 +123,14 @@ fn put_line(
     put(out, rest)
 }
 
+// adds the bytes, of which there is often one
 fn put(out: &mut Vec<u8>, bytes: &[u8]) -> Result<(), AllocError>
     ensures { OnOk result (out.new.items ≡ out.old.items ++ bytes.now) }
 {
+    if let [byte] = bytes {
+        out.push(*byte)?;
+        return Ok(());
+    }
     out.extend_from_slice(bytes)
 }
 

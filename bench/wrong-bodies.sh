@@ -1,7 +1,7 @@
 #!/usr/bin/env bash
 # Tries the wrong bodies of wrong-bodies/CRATE/, which the prover has to refuse as those of crates/CRATE/must-fail/: the gate tries a few of
 # each crate alone, since each takes some 20 seconds. They stand in the crate's must-fail/ while they are tried, and then are put back.
-# It ends with status 1 where one is not refused. Needs the crate's libraries, which it proves where they are not; some three hours for all.
+# It ends with status 1 where one is not refused. Needs the crate's libraries, which it proves where they are not; some hours for all, which was not timed.
 # Usage: bench/wrong-bodies.sh [CRATE..]   (all crates where none is named)
 set -eu
 cd "$(dirname "$0")/.."

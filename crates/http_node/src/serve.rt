@@ -17,7 +17,7 @@ use edge_base::{Sink, Status};
 use location_acl::{PlaceFault, PlaceTable};
 use node_core::Node;
 use serve_words::{Options, OptionsRead, read_options};
-use session::Settings;
+use session_base::Settings;
 use std::alloc::Global;
 use std::sync::Wait;
 use std::thread::Threads;

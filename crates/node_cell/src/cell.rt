@@ -38,7 +38,7 @@ impl<J: MadeWith> NodeCell<J> {
         ensures unseen { IfOk result (λ made. All (λ pass. seen_of pass ≡ []) made.1) }
     {
         let node = MadeNode {
-            node,
+            node: Box::new(alloc, node)?,
             with: PhantomData,
         };
         let (turns, passes) = TurnCell::new(rt, alloc, node, passes)?;

@@ -21,15 +21,15 @@ impl MadeWith for Brand {
     ghost made = { record { limits = default_limits; origin = [] } };
 }
 
-/// A node that is made so. It stands for the calls that it has taken in.
+/// A node that is made so, which a turn hands on by its address. It stands for the calls that it has taken in.
 #[derive(Drop)]
 pub struct MadeNode<J: MadeWith> {
-    pub node: Node,
+    pub node: Box<Node>,
     pub with: PhantomData<J>,
 }
 
 impl<J: MadeWith> Stands for MadeNode<J> {
     type Entry = Call;
 
-    ghost stands = { λ n calls. NodeStands n.node J.made (history_of calls) };
+    ghost stands = { λ n calls. NodeStands n.node.value J.made (history_of calls) };
 }

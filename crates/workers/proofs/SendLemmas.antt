@@ -93,7 +93,7 @@ pub node_send : IsSend node.the_row
 node_send = search (sendable, crosses, state_send, limits.the_send, journals.the_send, entered_send) depth 40
 
 made_send : (P : RattleType) → IsSend P → IsSend (mades.the_row P)
-made_send P sent = declared_send (mades.the_type P) (as_row_send node.the_field node_send, (search (sendable, crosses, sent) depth 12, tt))
+made_send P sent = declared_send (mades.the_type P) (search (sendable, crosses, node_send) depth 20, (search (sendable, crosses, sent) depth 12, tt))
 
 cell_sync : (P : RattleType) (made : Ghosts P.Denot) → IsSend P → IsSync P → IsSync (cell.the_row P made)
 cell_sync P made sent shared = declared_sync (cell.the_type P made) (as_row_sync (turn.the_field (mades.the_row P) call.the_row _) (cells.the_field_sync (mades.the_row P) call.the_row _ (made_send P sent)), tt)

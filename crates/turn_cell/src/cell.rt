@@ -8,11 +8,14 @@ use crate::turn::Turn;
 use crate::view::{TurnRule, View};
 use atomic_table::{Badge, Seat, Table};
 use std::alloc::{AllocError, Global};
-use std::sync::{Mutex, Wait};
+use std::sync::{Mutex, MutexGuard, Wait};
 use std::{hint, mem};
 
 /// How often a thread looks before it sleeps.
 const LOOKS: u32 = 100;
+
+/// How often a thread looks whether the turn of another one is over, before it waits at the lock.
+const ENTRY_LOOKS: u32 = 300;
 
 /// One value and its history, at which the passes take turns.
 #[derive(Drop)]
@@ -120,7 +123,7 @@ impl<V: Stands> TurnCell<V> {
         ensures made { AllBelow (passes_of self.now) (taken result) }
         ensures value { V.stands (value_of result) (taken result) }
     {
-        let guard = self.lock.lock(rt);
+        let guard = self.enter(rt);
         let badge = mem::replace(&mut pass.badge, Badge::blank());
         let mut seat = badge.into_seat::<Option<V>>();
         let ticket = self.table.shared.fetch_add::<Draw>(&mut seat, 0, 1);
@@ -134,6 +137,21 @@ impl<V: Stands> TurnCell<V> {
             value,
             guard,
         }
+    }
+
+    // Takes the lock. It looks at the turn for a while before it waits: most turns are shorter than falling asleep and
+    // waking up.
+    fn enter<R: Wait>(&self, rt: &R) -> MutexGuard<'_, u64> {
+        let shared = &self.table.shared;
+        for _ in 0..ENTRY_LOOKS {
+            if shared.peek(0) == shared.peek(1) {
+                if let Some(guard) = self.lock.try_lock() {
+                    return guard;
+                }
+            }
+            hint::spin_loop();
+        }
+        self.lock.lock(rt)
     }
 
     // Returns once the ticket is the one that is served.

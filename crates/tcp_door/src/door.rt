@@ -29,10 +29,10 @@ const MOST_WAITS: u64 = u64::MAX;
 /// that sends no more, and no byte before, is closed. So is a connection without a byte of a next request after 60
 /// seconds, and one with a part of a head ten seconds after the first byte of that head.
 ///
-/// A worker keeps its connection between two requests, unless another connection has something for a worker and no
-/// worker is free. Then the connection goes back to the others and may be given again, to any worker. So a connection
-/// of a door is one run of requests: of one client at a time that is one TCP connection, and under load it may be a
-/// part of one, whose requests count anew towards the most of a connection.
+/// A worker keeps its connection between two requests, unless no worker is free and another connection has none. Then
+/// the connection goes back to the others and may be given again, to any worker. So a connection of a door is one run of
+/// requests: where there are as many workers as connections that is one TCP connection, and else it may be a part of
+/// one, whose requests count anew towards the most of a connection.
 ///
 /// A client over IPv6 whose address holds an IPv4 address is given with that. Errors of accepting are passed over, but
 /// for those that say that the listener is none; where no descriptor is left, connections that wait for a second are

@@ -53,8 +53,8 @@ pub(crate) struct Left {
 /// Reads the requests of a TCP connection. It does not tell what is left.
 ///
 /// It gives one head at a time, and the bytes of its body behind it (RFC 9112, section 6). Between two requests it ends
-/// where another connection has something for a worker and no worker is free, or where nothing comes for 60 seconds, or
-/// where a part of a head came and the rest does not for ten seconds. The waits for the bytes of one body may take ten
+/// where no worker is free and another connection has none, or where nothing comes for 60 seconds, or where a part of a
+/// head came and the rest does not for ten seconds. The waits for the bytes of one body may take ten
 /// seconds in all, and one second more for each 65,536 bytes that came; past that the client is too slow, and the read
 /// fails. A failed read counts a fault.
 #[derive(Drop)]
@@ -202,8 +202,8 @@ impl<W: Wait + Clock + Drop> SocketSource<W> {
         Moved::Failed
     }
 
-    // reads more of the next head; `Later` where the run is to end. Only where nothing of it came, and no other connection
-    // waits for a worker, is it read without looking at the time and at the others.
+    // reads more of the next head; `Later` where the run is to end. Where nothing of it came, it is read without looking at
+    // the time.
     fn more(&mut self) -> Moved
         ensures faults { self.new.faults ≡ self.old.faults }
     {
@@ -214,9 +214,10 @@ impl<W: Wait + Clock + Drop> SocketSource<W> {
             self.run = Run::Yielded;
             return Moved::Later;
         }
-        // under load the client has hardly read its answer, and others wait: one look at both is enough
+        // under load the client has hardly read its answer: its connection waits with the others
         if self.hub.is_crowded() {
-            return self.wait_for_more();
+            self.run = Run::Yielded;
+            return Moved::Later;
         }
         match self.room.fill(&self.link.stream, true) {
             Moved::Later => self.wait_for_more(),

@@ -11,7 +11,8 @@ use Rattle.node_cell.proofs.home.CellHomeHome.call.Goals as goal
 pub returns-in-Ok-clause-seen : goal.returns-in-Ok-clause-seen
 returns-in-Ok-clause-seen g c = λ h is.
     let made = g.J.MadeWith.made in
-    let stands = subst (λ v. NodeStands v.node.value made (history_of (taken c.take-turn.result))) (sym c.value.ensures.value) c.take-turn.ensures.value in
+    let held = subst (λ v. NodeStands v.node.value made (history_of (taken c.take-turn.result))) (sym c.value.ensures.value) c.take-turn.ensures.value in
+    let stands = subst (λ n. NodeStands n made (history_of (taken c.take-turn.result))) (sym c.deref_mut.ensures.value) held in
     let told = c.in-Ok.ensures.told made (history_of (taken c.take-turn.result)) stands in
     rw (← c.self.view_is) (answered_at made _ _ (own_of _ _ c.self.inside.pass c.self.invariant) _ _ c.take-turn.ensures.history h (rw (← c.self.view_is) at is) _ c.args.call c.in-Ok.reply
     (told.0 ∙ ap (λ n. reply_to made (history_of (taken c.take-turn.result)) (n, event_of c.args.call)) c.number-number.ensures)
@@ -24,6 +25,7 @@ returns-in-Err-clause-seen g c = λ h is.
 pub returns-in-Err-clause-ended : goal.returns-in-Err-clause-ended
 returns-in-Err-clause-ended g c = λ h is begun.
     let made = g.J.MadeWith.made in
-    let stands = subst (λ v. NodeStands v.node.value made (history_of (taken c.take-turn.result))) (sym c.value.ensures.value) c.take-turn.ensures.value in
+    let held = subst (λ v. NodeStands v.node.value made (history_of (taken c.take-turn.result))) (sym c.value.ensures.value) c.take-turn.ensures.value in
+    let stands = subst (λ n. NodeStands n made (history_of (taken c.take-turn.result))) (sym c.deref_mut.ensures.value) held in
     let before = open_at made _ _ (own_of _ _ c.self.inside.pass c.self.invariant) _ _ c.take-turn.ensures.history h (rw (← c.self.view_is) at is) (event_of c.args.call) (rw (← c.self.view_is) at begun) in
     c.in-Err.ensures.ended made (history_of (taken c.take-turn.result)) stands (subst (λ n. EndsOpen made (history_of (taken c.take-turn.result)) n (event_of c.args.call)) (sym c.number-number.ensures) before)

@@ -124,7 +124,7 @@ fn put_line(
 }
 
 // adds the bytes, of which there is often one
-#[inline]
+#[inline(always)]
 fn put(out: &mut Vec<u8>, bytes: &[u8]) -> Result<(), AllocError>
     ensures { OnOk result (out.new.items ≡ out.old.items ++ bytes.now) }
 {
@@ -136,7 +136,7 @@ fn put(out: &mut Vec<u8>, bytes: &[u8]) -> Result<(), AllocError>
 }
 
 // adds the digits of a number, of which there is often one
-#[inline]
+#[inline(always)]
 fn put_number(out: &mut Vec<u8>, number: u32) -> Result<(), AllocError>
     ensures { OnOk result (out.new.items ≡ out.old.items ++ decimal number) }
 {

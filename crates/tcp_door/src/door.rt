@@ -31,8 +31,8 @@ const MOST_WAITS: u64 = u64::MAX;
 ///
 /// A worker keeps its connection between two requests, unless no worker is free and another connection has none. Then
 /// the connection goes back to the others and may be given again, to any worker. So a connection of a door is one run of
-/// requests: where there are as many workers as connections that is one TCP connection, and else it may be a part of
-/// one, whose requests count anew towards the most of a connection.
+/// requests: of one client at a time that is one TCP connection, and of several it may be a part of one, whose requests
+/// count anew towards the most of a connection.
 ///
 /// A client over IPv6 whose address holds an IPv4 address is given with that. Errors of accepting are passed over, but
 /// for those that say that the listener is none; where no descriptor is left, connections that wait for a second are

@@ -697,27 +697,42 @@ fn serve_some<R: Threads + Wait + Sync, W: Wait + Clock + Clone + Send + Drop>(
     alloc: Global,
     job: &mut Job<W>,
     runs: u64,
+    answer: &[u8],
     ended: &AtomicU64,
 ) {
     for _ in 0..runs {
-        serve_one(rt, alloc, &mut job.door, OK, &mut job.served);
+        serve_one(rt, alloc, &mut job.door, answer, &mut job.served);
     }
     ended.fetch_add(1, Ordering::SeqCst);
 }
 
-// serves with all workers at once
+// serves so many runs of requests with each of the workers, with all at once
 fn serve_all<R: Threads + Wait + Sync, W: Wait + Clock + Clone + Send + Drop>(
     rt: &R,
     alloc: Global,
     jobs: &mut [Job<W>],
+    runs: u64,
+    answer: &[u8],
     ended: &AtomicU64,
 ) {
     thread::for_each_mut(
         rt,
         jobs,
         4,
-        &|_, job: &mut Job<W>| serve_some(rt, alloc, job, 25, ended),
+        &|_, job: &mut Job<W>| serve_some(rt, alloc, job, runs, answer, ended),
     );
+}
+
+// what the workers served together
+fn sum_of<W: Wait + Clock + Clone + Drop>(jobs: &[Job<W>]) -> Served {
+    let mut served = NOTHING;
+    for job in jobs {
+        served.requests = served.requests.saturating_add(job.served.requests);
+        served.read_faults = served.read_faults.saturating_add(job.served.read_faults);
+        served.write_faults = served.write_faults.saturating_add(job.served.write_faults);
+        served.door_faults = served.door_faults.saturating_add(job.door.faults());
+    }
+    served
 }
 
 // asks over kept connections and over new ones, in turn, until all workers have ended; how many were answered
@@ -777,21 +792,72 @@ fn many_workers_share_the_connections(rt: HostRuntime) -> Result<(), Fail> {
     let all = jobs.as_mut_slice();
     let (_, good) = join(
         &rt,
-        || serve_all(&rt, alloc, all, &ended),
+        || serve_all(&rt, alloc, all, 25, OK, &ended),
         || many_clients(&rt, alloc, addr, &ended).unwrap_or(0),
     );
-    let mut served = NOTHING;
-    for job in &jobs {
-        served.requests = served.requests.saturating_add(job.served.requests);
-        served.read_faults = served.read_faults.saturating_add(job.served.read_faults);
-        served.write_faults = served.write_faults.saturating_add(job.served.write_faults);
-        served.door_faults = served.door_faults.saturating_add(job.door.faults());
-    }
     assert!(rt; good >= 100);
     assert_eq!(rt;
-        served,
+        sum_of(jobs.as_slice()),
         Served {
             requests: good,
+            ..NOTHING
+        }
+    );
+    Ok(())
+}
+
+// a client whose body comes in two parts, one that reads its answer late, and between them one that is answered
+fn clients_in_the_way<N: Net<Stream = TcpStream> + Clock>(
+    net: &N,
+    alloc: Global,
+    addr: SocketAddr,
+    answer: &[u8],
+) -> io::Result<u64> {
+    let half = dial(net, addr)?;
+    say(&half, b"POST / HTTP/1.1\r\nContent-Length: 5\r\n\r\nab")?;
+    thread::sleep(net, Duration::from_millis(20));
+    let deaf = dial(net, addr)?;
+    say(&deaf, GET)?;
+    thread::sleep(net, Duration::from_millis(20));
+    let mut good = last_client(net, alloc, addr, answer)?;
+    good = good.saturating_add(asks(&half, alloc, b"cde", answer));
+    Ok(good.saturating_add(one_if(hears(&deaf, alloc, answer))))
+}
+
+#[test]
+fn workers_that_wait_stop_no_other(rt: HostRuntime) -> Result<(), Fail> {
+    let alloc = rt.alloc();
+    let mut outside = StdOutside::new(rt.clone()?, WAITS);
+    outside
+        .listen(&rt, alloc, b"127.0.0.1:0")
+        .ok()
+        .ok_or("listen")?;
+    let addr = outside.local_addr().ok_or("address")?;
+    let mut jobs = Vec::new(alloc);
+    for _ in 0..3 {
+        let worker = outside.worker(&rt, alloc).ok().ok_or("worker")?;
+        jobs.push(Job {
+            door: worker.door,
+            served: NOTHING,
+        })
+        .ok()
+        .ok_or("memory")?;
+    }
+    let mut answer = Vec::new(alloc);
+    answer.resize(16_000_000, 98u8)?;
+    let answer = answer.as_slice();
+    let ended = AtomicU64::new(0);
+    let all = jobs.as_mut_slice();
+    let (_, good) = join(
+        &rt,
+        || serve_all(&rt, alloc, all, 1, answer, &ended),
+        || clients_in_the_way(&rt, alloc, addr, answer).unwrap_or(0),
+    );
+    assert_eq!(rt; good, 3);
+    assert_eq!(rt;
+        sum_of(jobs.as_slice()),
+        Served {
+            requests: 3,
             ..NOTHING
         }
     );

@@ -17,7 +17,7 @@ use std::test::Fail;
 use std::thread::{Threads, join};
 use std::time::Duration;
 use std::{io, thread, time};
-use tcp_door::{StdOutside, TcpDoor, TcpGate, WAITS, Waits};
+use tcp_door::{StdOutside, TcpDoor, WAITS, Waits, WorkerGate};
 use upstream_gate::Gate;
 
 const GET: &[u8] = b"GET /a HTTP/1.1\r\nHost: v.example\r\n\r\n";
@@ -53,7 +53,7 @@ enum Crowd {
 }
 
 // a worker over TCP
-type TcpWorker<R> = Worker<TcpDoor<R>, TcpGate<R>, WallClock<R>>;
+type TcpWorker<R> = Worker<TcpDoor<R>, WorkerGate<R>, WallClock<R>>;
 
 // where clients connect, and where the origin is
 #[derive(Clone, Copy)]

@@ -1,11 +1,12 @@
 //! The sink of a connection.
 
-ghost use Rattle.std.specs.Prelude.{◌≡◌, ◌<◌, length};
+ghost use Rattle.std.specs.Prelude.{◌≡◌, ◌<◌, length, IfSome, IfNone};
+ghost use Rattle.edge_base.specs.Sink.{IsPutCount, HasWriteCause};
 ghost use Rattle.sockets.specs.Ready.{IsMoved};
 
 use crate::link::Link;
 use crate::pace::Pace;
-use crate::ready::{Moved, write_within};
+use crate::ready::{Moved, write_now, write_within};
 use edge_base::{Put, Sink};
 use std::alloc::Global;
 use std::sync::Arc;
@@ -51,17 +52,51 @@ impl<C: Clock + Drop> SocketSink<C> {
         self.link
     }
 
-    // writes, and begins with a pace anew where the source has begun with another message
-    fn put(&mut self, piece: &[u8]) -> Moved
+    /// Writes what there is room for, without waiting; none where there is no room.
+    pub fn write_soon(&mut self, piece: &[u8]) -> Option<Put>
         requires { 0 < length piece.now }
-        ensures moved { IsMoved (length piece.now) result }
-        ensures faults { self.new.faults ≡ self.old.faults }
+        ensures count { IfSome result (λ put. IsPutCount (length piece.now) put) }
+        ensures cause { IfSome result (λ put. HasWriteCause self.old.faults self.new.faults put) }
+        ensures later { IfNone result (self.new.faults ≡ self.old.faults) }
+    {
+        self.begin();
+        match write_now(&self.link.stream, piece) {
+            Moved::Some(count) => {
+                self.pace.note_move(count);
+                Some(Put::Some(count))
+            }
+            Moved::Later => None,
+            _ => Some(self.fail()),
+        }
+    }
+
+    // counts a fault
+    fn fail(&mut self) -> Put
+        ensures answer { result ≡ Put.Failed }
+        ensures cause { HasWriteCause self.old.faults self.new.faults result }
+    {
+        self.faults = self.faults.saturating_add(1);
+        Put::Failed
+    }
+
+    // begins with a pace anew where the source has begun with another message
+    fn begin(&mut self)
+        ensures { self.new.faults ≡ self.old.faults }
     {
         let message = self.link.message();
         if message != self.message {
             self.message = message;
             self.pace.begin();
         }
+    }
+
+    // writes, and waits where there is no room
+    fn put(&mut self, piece: &[u8]) -> Moved
+        requires { 0 < length piece.now }
+        ensures moved { IsMoved (length piece.now) result }
+        ensures faults { self.new.faults ≡ self.old.faults }
+    {
+        self.begin();
         write_within(&self.clock, &self.link.stream, piece, &mut self.pace)
     }
 }
@@ -77,10 +112,7 @@ impl<C: Clock + Drop> Sink for SocketSink<C> {
     fn write(&mut self, piece: &[u8]) -> Put {
         match self.put(piece) {
             Moved::Some(count) => Put::Some(count),
-            _ => {
-                self.faults = self.faults.saturating_add(1);
-                Put::Failed
-            }
+            _ => self.fail(),
         }
     }
 }

@@ -1,4 +1,1 @@
-pub mod Ahead
-pub mod Hub
-pub mod Parked
 pub mod Source

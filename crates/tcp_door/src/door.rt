@@ -2,9 +2,9 @@
 
 ghost use Rattle.std.specs.Prelude.{◌≡◌, IfOk, Some};
 
-use crate::hub::{Hub, Look, Taken};
-use crate::parked::Parked;
+use crate::sink::ClientSink;
 use crate::source::{Left, Run, SocketSource};
+use client_hub::{Hub, Look, Parked, Taken, Task};
 use doors::{Accepted, Door};
 use libc::net as c;
 use sockets::{Link, Moved, Pace, Room, SocketSink, Woken, clock_of, wait_for_one};
@@ -29,10 +29,13 @@ const MOST_WAITS: u64 = u64::MAX;
 /// that sends no more, and no byte before, is closed. So is a connection without a byte of a next request after 60
 /// seconds, and one with a part of a head ten seconds after the first byte of that head.
 ///
-/// A worker keeps its connection between two requests, unless no worker is free and another connection has none. Then
-/// the connection goes back to the others and may be given again, to any worker. So a connection of a door is one run of
-/// requests: of one client at a time that is one TCP connection, and of several it may be a part of one, whose requests
-/// count anew towards the most of a connection.
+/// A worker keeps its connection between two requests where no other one is open. Else the connection goes back to the
+/// others and may be given again, to any worker. So a connection of a door is one run of requests: of one client at a time
+/// that is one TCP connection, and of several it may be a part of one, whose requests count anew towards the most of a
+/// connection.
+///
+/// One door at a time waits for clients, and serves what came one after the other; those of the other workers sleep. One of
+/// them is called before this one may wait for an origin or a client, and where what came has waited for a millisecond.
 ///
 /// A client over IPv6 whose address holds an IPv4 address is given with that. Errors of accepting are passed over, but
 /// for those that say that the listener is none; where no descriptor is left, connections that wait for a second are
@@ -71,7 +74,11 @@ impl<W: Wait + Clock + Clone + Drop> TcpDoor<W> {
     // waits for the next connection; none where the listener is broken
     fn wait<R: Wait>(&self, rt: &R, alloc: Global, room: &mut Room) -> Option<Taken> {
         for _ in rt.forever() {
-            match self.hub.look(&self.rt, alloc, room) {
+            let look = match self.hub.next_task(&self.rt) {
+                Task::Accept => self.hub.accept(&self.rt, alloc, room),
+                Task::Read(parked) => self.hub.read(&self.rt, alloc, parked, room),
+            };
+            match look {
                 Look::Given(taken) => return Some(taken),
                 Look::Fault => return None,
                 Look::Nothing => {}
@@ -86,21 +93,22 @@ impl<W: Wait + Clock + Clone + Drop> TcpDoor<W> {
         alloc: Global,
         taken: Taken,
         room: Room,
-    ) -> Result<(SocketSource<W>, SocketSink<W>), AllocError>
-        ensures { IfOk result (λ ends. (ends.0.faults ≡ 0) × (ends.1.faults ≡ 0)) }
+    ) -> Result<(SocketSource<W>, ClientSink<W>), AllocError>
+        ensures { IfOk result (λ ends. (ends.0.faults ≡ 0) × (ends.1.sink.faults ≡ 0)) }
     {
-        let Taken { stream, ip, known } = taken;
+        let Taken { stream, ip, token } = taken;
         let link = Arc::new(alloc, Link::new(stream))?;
         let other = Arc::try_clone(&link)?;
         let hub = Arc::try_clone(&self.hub)?;
         let pace = Pace::of_client(&self.hub.waits);
         let sink = SocketSink::new(other, self.rt.clone()?, pace);
-        let source = SocketSource::new(hub, link, self.rt.clone()?, ip, known, room, pace);
+        let sink = ClientSink::new(Arc::try_clone(&self.hub)?, self.rt.clone()?, sink);
+        let source = SocketSource::new(hub, link, self.rt.clone()?, ip, token, room, pace);
         Ok((source, sink))
     }
 
     // ends a connection whose run is over, or parks it
-    fn shut(&self, source: SocketSource<W>, sink: SocketSink<W>) -> Room {
+    fn shut(&self, source: SocketSource<W>, sink: ClientSink<W>) -> Room {
         let broken = sink.faults() > 0;
         let Left {
             link,
@@ -108,35 +116,37 @@ impl<W: Wait + Clock + Clone + Drop> TcpDoor<W> {
             mut room,
             since,
             born,
-            known,
+            token,
             run,
             unread,
         } = source.into_left();
         drop(sink);
-        if let Some(
+        let Some(
             Link {
                 stream,
                 messages: _,
             },
         ) = Arc::into_inner(link)
-        {
-            match run {
-                Run::Yielded if !broken => {
-                    let parked = Parked {
-                        stream,
-                        ip,
-                        got: Vec::new(self.alloc),
-                        since,
-                        born,
-                        known,
-                    };
-                    self.hub.park_again(&self.rt, self.alloc, parked, &room);
-                }
-                Run::Going if !broken && unread => {
-                    linger(&self.rt, &stream, &mut room, self.hub.waits.linger);
-                }
-                _ => {}
+        else {
+            self.hub.forget(&self.rt, token);
+            return room;
+        };
+        if run == Run::Yielded && !broken {
+            let parked = Parked {
+                stream,
+                ip,
+                got: Vec::new(self.alloc),
+                since,
+                born,
+                token,
+            };
+            self.hub.park_again(&self.rt, self.alloc, parked, &room);
+        } else {
+            if run == Run::Going && !broken && unread {
+                self.hub.hand_over(&self.rt);
+                linger(&self.rt, &stream, &mut room, self.hub.waits.linger);
             }
+            self.hub.forget(&self.rt, token);
         }
         room.clear();
         room
@@ -172,7 +182,7 @@ impl<W: Wait + Clock + Clone + Send + Drop> Door for TcpDoor<W> {
 
     type S = SocketSource<W>;
 
-    type K = SocketSink<W>;
+    type K = ClientSink<W>;
 
     ghost book = { λ _. None };
 
@@ -182,7 +192,7 @@ impl<W: Wait + Clock + Clone + Send + Drop> Door for TcpDoor<W> {
         &mut self,
         rt: &R,
         alloc: Global,
-    ) -> Accepted<SocketSource<W>, SocketSink<W>> {
+    ) -> Accepted<SocketSource<W>, ClientSink<W>> {
         let mut room = match self.room.take() {
             Some(room) => room,
             None => match Room::new(alloc) {
@@ -190,21 +200,21 @@ impl<W: Wait + Clock + Clone + Send + Drop> Door for TcpDoor<W> {
                 Err(_) => return Accepted::Memory,
             },
         };
-        self.hub.begin_idle();
-        let taken = self.wait(rt, alloc, &mut room);
-        self.hub.end_idle();
-        let Some(taken) = taken else {
+        let Some(taken) = self.wait(rt, alloc, &mut room) else {
             self.faults = self.faults.saturating_add(1);
             return Accepted::Failed;
         };
-        let ip = taken.ip;
+        let (ip, token) = (taken.ip, taken.token);
         match self.ends(alloc, taken, room) {
             Ok((source, sink)) => Accepted::One { ip, source, sink },
-            Err(_) => Accepted::Memory,
+            Err(_) => {
+                self.hub.forget(&self.rt, token);
+                Accepted::Memory
+            }
         }
     }
 
-    fn close(&mut self, source: SocketSource<W>, sink: SocketSink<W>) {
+    fn close(&mut self, source: SocketSource<W>, sink: ClientSink<W>) {
         let room = self.shut(source, sink);
         self.room = Some(room);
     }

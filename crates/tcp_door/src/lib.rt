@@ -2,16 +2,17 @@
 //! the outside that gives workers with such doors.
 #![tactic(auto)]
 
-mod ahead;
 mod door;
-mod hub;
+mod gate;
 mod outside;
-mod parked;
 mod place_file;
+mod sink;
 mod source;
 
 pub use door::TcpDoor;
+pub use gate::WorkerGate;
 pub use outside::StdOutside;
 pub use place_file::PLACES_MAX;
-pub use sockets::{SocketSink, TcpGate, WAITS, Waits};
+pub use sink::ClientSink;
+pub use sockets::{WAITS, Waits};
 pub use source::SocketSource;

@@ -4,8 +4,9 @@ ghost use Rattle.std.specs.Prelude.{◌≡◌, ◌≤◌, None, IfOk};
 ghost use Rattle.edge_base.specs.Causes.{next_count};
 
 use crate::door::TcpDoor;
-use crate::hub::Hub;
+use crate::gate::WorkerGate;
 use crate::place_file::read_file;
+use client_hub::Hub;
 use doors::{Outside, OutsideFault, Worker, read_address};
 use edge_base::WallClock;
 use listing::Text;
@@ -90,11 +91,12 @@ impl<N: Net<Listener = TcpListener, Stream = TcpStream> + Wait + Clock + Clone +
         &self,
         alloc: Global,
         hub: &Arc<Hub, Global>,
-    ) -> Result<Worker<TcpDoor<N>, TcpGate<N>, WallClock<N>>, AllocError>
+    ) -> Result<Worker<TcpDoor<N>, WorkerGate<N>, WallClock<N>>, AllocError>
         ensures { IfOk result (λ worker. worker.door.faults ≡ 0) }
     {
         let door = TcpDoor::new(Arc::try_clone(hub)?, self.net.clone()?, alloc);
         let gate = TcpGate::new(self.net.clone()?, self.waits);
+        let gate = WorkerGate::new(Arc::try_clone(hub)?, self.net.clone()?, gate);
         let clock = WallClock::new(self.net.clone()?);
         Ok(Worker { door, gate, clock })
     }
@@ -118,7 +120,7 @@ impl<
 
     type D = TcpDoor<N>;
 
-    type G = TcpGate<N>;
+    type G = WorkerGate<N>;
 
     type C = WallClock<N>;
 
@@ -153,7 +155,7 @@ impl<
         &mut self,
         _rt: &R,
         alloc: Global,
-    ) -> Result<Worker<TcpDoor<N>, TcpGate<N>, WallClock<N>>, OutsideFault> {
+    ) -> Result<Worker<TcpDoor<N>, WorkerGate<N>, WallClock<N>>, OutsideFault> {
         let made = match &self.hub {
             Some(hub) => self.worker_of(alloc, hub),
             None => return Err(self.fault()),
@@ -184,7 +186,7 @@ impl<
         }
     }
 
-    fn give_back(&mut self, worker: Worker<TcpDoor<N>, TcpGate<N>, WallClock<N>>)
+    fn give_back(&mut self, worker: Worker<TcpDoor<N>, WorkerGate<N>, WallClock<N>>)
         ensures returned { self.new.returned ≡ min (self.old.returned + 1) (2 ^ 64 - 1) }
         ensures later { self.old.faults ≤ self.new.faults }
         ensures cause { 0 < worker.door.faults → Rose self.old.faults self.new.faults }

@@ -4,8 +4,7 @@ ghost use Rattle.std.specs.Prelude.{◌≡◌, ◌-◌, ◌<◌, ◌≤◌, leng
 ghost use Rattle.tcp_door.specs.Source.{IsPiece};
 ghost use Rattle.sockets.specs.Ready.{IsMoved};
 
-use crate::ahead::{Front, front_of, what_follows};
-use crate::hub::{Hub, Taken};
+use client_hub::{Front, Hub, Stance, front_of, what_follows};
 use edge_base::{Source, Took};
 use libc::net as c;
 use location_acl::Ip;
@@ -15,10 +14,10 @@ use std::os::fd::AsRawFd;
 use std::sync::{Arc, Wait};
 use std::time::Clock;
 
-/// How many requests of one connection are served in a row at most while another has something for a worker.
+/// After how many requests of the only connection it is looked for another one, where no other worker waits for it.
 const BURST: u64 = 8;
 
-/// How long a worker that keeps a connection waits before it looks whether other workers are still free, in milliseconds.
+/// How long a worker that keeps a connection waits before it looks whether another one is open, in milliseconds.
 const LOOK_STEP: u64 = 25;
 
 /// How often a wait is begun again at most.
@@ -29,7 +28,7 @@ const MOST_WAITS: u64 = u64::MAX;
 pub(crate) enum Run {
     // it goes on
     Going,
-    // it was ended for another connection, between two requests; the connection is kept
+    // it was ended between two requests, since other connections are open; the connection is kept
     Yielded,
     // it is over, and so is the connection
     Over,
@@ -44,7 +43,7 @@ pub(crate) struct Left {
     pub room: Room,
     pub since: u64,
     pub born: u64,
-    pub known: bool,
+    pub token: u64,
     pub run: Run,
     // whether the client may have sent more than was read
     pub unread: bool,
@@ -53,10 +52,9 @@ pub(crate) struct Left {
 /// Reads the requests of a TCP connection. It does not tell what is left.
 ///
 /// It gives one head at a time, and the bytes of its body behind it (RFC 9112, section 6). Between two requests it ends
-/// where no worker is free and another connection has none, or where nothing comes for 60 seconds, or where a part of a
-/// head came and the rest does not for ten seconds. The waits for the bytes of one body may take ten
-/// seconds in all, and one second more for each 65,536 bytes that came; past that the client is too slow, and the read
-/// fails. A failed read counts a fault.
+/// where other connections are open, or where nothing comes for 60 seconds, or where a part of a head came and the rest does
+/// not for ten seconds. The waits for the bytes of one body may take ten seconds in all, and one second more for each
+/// 65,536 bytes that came; past that the client is too slow, and the read fails. A failed read counts a fault.
 #[derive(Drop)]
 pub struct SocketSource<W: Wait + Clock + Drop> {
     hub: Arc<Hub, Global>,
@@ -70,7 +68,7 @@ pub struct SocketSource<W: Wait + Clock + Drop> {
     since: u64,
     // the moment at which a part of a head had come, 0 where that was not looked at
     born: u64,
-    known: bool,
+    token: u64,
     // how many requests were given
     count: u64,
     run: Run,
@@ -87,7 +85,7 @@ impl<W: Wait + Clock + Drop> SocketSource<W> {
         link: Arc<Link, Global>,
         rt: W,
         ip: Ip,
-        known: bool,
+        token: u64,
         room: Room,
         pace: Pace,
     ) -> SocketSource<W>
@@ -102,7 +100,7 @@ impl<W: Wait + Clock + Drop> SocketSource<W> {
             body: Some(0),
             since: 0,
             born: 0,
-            known,
+            token,
             count: 0,
             run: Run::Going,
             last: false,
@@ -131,7 +129,7 @@ impl<W: Wait + Clock + Drop> SocketSource<W> {
             body: _,
             since,
             born,
-            known,
+            token,
             count: _,
             run: _,
             last: _,
@@ -144,7 +142,7 @@ impl<W: Wait + Clock + Drop> SocketSource<W> {
             room,
             since,
             born,
-            known,
+            token,
             run,
             unread,
         }
@@ -202,22 +200,18 @@ impl<W: Wait + Clock + Drop> SocketSource<W> {
         Moved::Failed
     }
 
-    // reads more of the next head; `Later` where the run is to end. Where nothing of it came, it is read without looking at
-    // the time.
+    // Reads more of the next head; `Later` where the run is to end: where other connections are open, this one waits with
+    // them. Where nothing of it came, it is read without looking at the time.
     fn more(&mut self) -> Moved
         ensures faults { self.new.faults ≡ self.old.faults }
     {
+        let stance = self.hub.stance(&self.rt);
+        if stance == Stance::Crowded || (stance == Stance::Unattended && self.is_to_look()) {
+            self.run = Run::Yielded;
+            return Moved::Later;
+        }
         if !self.room.bytes().is_empty() {
             return self.wait_for_more();
-        }
-        if self.count > 0 && self.count % BURST == 0 && self.is_to_yield() {
-            self.run = Run::Yielded;
-            return Moved::Later;
-        }
-        // under load the client has hardly read its answer: its connection waits with the others
-        if self.hub.is_crowded() {
-            self.run = Run::Yielded;
-            return Moved::Later;
         }
         match self.room.fill(&self.link.stream, true) {
             Moved::Later => self.wait_for_more(),
@@ -225,10 +219,9 @@ impl<W: Wait + Clock + Drop> SocketSource<W> {
         }
     }
 
-    // whether another connection is to be served now
-    fn is_to_yield(&self) -> bool {
-        self.hub.tidy(&self.rt);
-        self.hub.is_wanted()
+    // whether enough requests were served in a row, and a connection came
+    fn is_to_look(&self) -> bool {
+        self.count % BURST == 0 && self.hub.is_wanted()
     }
 
     // waits for more of the next head; `Later` where the run is to end
@@ -242,10 +235,8 @@ impl<W: Wait + Clock + Drop> SocketSource<W> {
                     got => return got,
                 },
                 Woken::Second => {
-                    if !self.hub.has_idle() {
-                        self.run = Run::Yielded;
-                        return Moved::Later;
-                    }
+                    self.run = Run::Yielded;
+                    return Moved::Later;
                 }
                 Woken::Neither => {
                     if self.run == Run::Over {
@@ -257,7 +248,7 @@ impl<W: Wait + Clock + Drop> SocketSource<W> {
         Moved::Failed
     }
 
-    // waits for a while, for this connection and, where no worker is free, for the others
+    // waits for a while for this connection; `Second` where another one is open
     fn wait_once(&mut self) -> Woken
         ensures faults { self.new.faults ≡ self.old.faults }
     {
@@ -269,10 +260,11 @@ impl<W: Wait + Clock + Drop> SocketSource<W> {
             return Woken::Neither;
         }
         let fd = self.link.stream.as_raw_fd();
-        if self.hub.has_idle() {
-            return wait_for_one(fd, c::POLLIN, left.min(LOOK_STEP));
+        match self.hub.stance(&self.rt) {
+            Stance::Crowded => Woken::Second,
+            Stance::Attended => wait_for_one(fd, c::POLLIN, left.min(LOOK_STEP)),
+            Stance::Unattended => wait_for_two(fd, self.hub.epoll(), left.min(self.hub.waits.tick)),
         }
-        wait_for_two(fd, self.hub.epoll(), left.min(self.hub.waits.tick))
     }
 
     // how long the next head may be waited for
@@ -311,6 +303,7 @@ impl<W: Wait + Clock + Drop> SocketSource<W> {
             self.note(count);
             return Moved::Some(count);
         }
+        self.hub.hand_over(&self.rt);
         let got = read_within(
             &self.rt,
             &self.link.stream,

@@ -3,9 +3,9 @@ use Rattle.std.specs.Prelude.{◌⊎◌, ℕ, ◌<◌, ◌≤◌, List, length, 
 use Rattle.httparse.specs.Grammar.{MayBecomeRequest}
 use Rattle.httparse.specs.Spans.{RequestOverflows}
 use Rattle.http_wire.specs.declared.limits.TheConstants.{FEEDS_MAX, FIELDS_MAX, HEAD_MAX}
-use Rattle.tcp_door.specs.declared.ahead.Front.{Front}
-use Rattle.tcp_door.specs.declared.ahead.Front.TheVariants as front
-use Rattle.tcp_door.specs.declared.ahead.TheConstants.{LINE_FEED}
+use Rattle.client_hub.specs.declared.ahead.Front.{Front}
+use Rattle.client_hub.specs.declared.ahead.Front.TheVariants as front
+use Rattle.client_hub.specs.declared.ahead.TheConstants.{LINE_FEED}
 
 -- how many line feeds stand in the bytes
 abbrev pub line_feeds : List ℕ → ℕ

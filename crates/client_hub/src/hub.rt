@@ -1,20 +1,20 @@
-//! The one place where all workers wait for connections.
+//! The one place where the workers find their connections.
 
 ghost use Rattle.std.specs.Prelude.{◌≡◌};
-ghost use Rattle.tcp_door.specs.Hub.{refusal_of};
+ghost use Rattle.client_hub.specs.Hub.{refusal_of};
 
 use crate::ahead::{Front, front_of};
-use crate::parked::{Lot, Parked};
+use crate::parked::{LISTENER, Lot, Parked};
+use crate::watch::{Desk, Post};
 use libc::net as c;
 use location_acl::Ip;
 use mio::Poll;
-use os::EpollEvent;
 use sockets::{Moved, Room, Waits, Woken, clock_of, wait_for_one};
 use std::alloc::Global;
 use std::net::{IpAddr, Net, SocketAddr, TcpListener, TcpStream};
 use std::os::fd::{AsRawFd, OwnedFd, RawFd};
 use std::sync::atomic::{AtomicU64, Ordering};
-use std::sync::{Mutex, Wait};
+use std::sync::{Condvar, Mutex, Wait};
 use std::time::{Clock, Duration};
 use std::{io, thread};
 
@@ -23,9 +23,6 @@ const FIRST_WAIT: u64 = 5;
 
 /// How many connections may wait to be accepted; the system allows fewer.
 const BACKLOG: i32 = 65_535;
-
-/// The token of the listener.
-const LISTENER: u64 = 0;
 
 /// How long parked connections are spared where no descriptor is left, in milliseconds.
 const SPARED: u64 = 1_000;
@@ -39,36 +36,40 @@ const ENOBUFS: i32 = 105;
 /// How long a worker sleeps where no descriptor is left, in milliseconds.
 const FULL_SLEEP: u64 = 20;
 
-// a listener and the connections that no worker has
+/// A listener, the connections that came of it and are open, and the workers that serve them.
 #[derive(Drop)]
-pub(crate) struct Hub {
+pub struct Hub {
     listener: TcpListener,
     poll: Poll,
-    lot: Mutex<Lot>,
-    // how many connections are parked
-    parked: AtomicU64,
-    // how many workers wait for one
-    idle: AtomicU64,
+    pub(crate) desk: Mutex<Desk>,
+    // where workers sleep
+    pub(crate) sleepers: Condvar,
+    // where the deputy does
+    pub(crate) deputy: Condvar,
     // when it was looked for late ones
     looked: AtomicU64,
+    /// What is waited.
     pub waits: Waits,
 }
 
-// a connection for a worker, whose bytes so far stand in the worker's room
+/// A connection for a worker, whose bytes so far stand in the worker's room.
 #[derive(Drop)]
-pub(crate) struct Taken {
+pub struct Taken {
     pub stream: TcpStream,
+    /// The address of its client.
     pub ip: Ip,
-    pub known: bool,
+    /// Its token.
+    pub token: u64,
 }
 
-// what looking for a connection gave
+/// What looking for a connection gave.
 #[derive(Drop)]
-pub(crate) enum Look {
+pub enum Look {
+    /// A connection with something for a worker.
     Given(Taken),
-    // nothing for now
+    /// Nothing for now.
     Nothing,
-    // the listener is broken
+    /// The listener is broken.
     Fault,
 }
 
@@ -84,8 +85,11 @@ pub(crate) enum Refusal {
 }
 
 impl Hub {
-    // a hub of this listener
-    pub(crate) fn new<N: Net>(
+    /// A hub of this listener, whose connections wait so.
+    ///
+    /// # Errors
+    /// What the system says of the listener's options or of the epoll.
+    pub fn new<N: Net>(
         net: &N,
         alloc: Global,
         listener: TcpListener,
@@ -96,171 +100,140 @@ impl Hub {
         let hub = Hub {
             listener,
             poll,
-            lot: Mutex::new(Lot::new(alloc)),
-            parked: AtomicU64::new(0),
-            idle: AtomicU64::new(0),
+            desk: Mutex::new(Desk {
+                lot: Lot::new(alloc),
+                post: Post::new(),
+            }),
+            sleepers: Condvar::new(),
+            deputy: Condvar::new(),
             looked: AtomicU64::new(0),
             waits,
         };
-        if hub.arm(c::EPOLL_CTL_ADD) {
+        if hub.listen() {
             Ok(hub)
         } else {
             Err(io::Error::from_raw_os_error(os::errno()))
         }
     }
 
-    // where it listens
-    pub(crate) fn local_addr(&self) -> io::Result<SocketAddr> {
+    /// The address where it listens.
+    ///
+    /// # Errors
+    /// What the system says.
+    pub fn local_addr(&self) -> io::Result<SocketAddr> {
         self.listener.local_addr()
     }
 
-    pub(crate) fn epoll(&self) -> RawFd {
+    /// The descriptor of the epoll, which has something to read where something came for a worker.
+    pub fn epoll(&self) -> RawFd {
         self.poll.as_raw_fd()
     }
 
-    // lets the listener's next connection wake one worker
-    fn arm(&self, op: i32) -> bool {
+    // the epoll tells of the listener's connections from now on
+    fn listen(&self) -> bool {
         let fd = self.listener.as_raw_fd();
-        let events = c::EPOLLIN | c::EPOLLONESHOT;
-        os::epoll_ctl(self.epoll(), op, fd, events, LISTENER) == 0
+        os::epoll_ctl(self.epoll(), c::EPOLL_CTL_ADD, fd, c::EPOLLIN, LISTENER) == 0
     }
 
-    // a worker begins to wait
-    pub(crate) fn begin_idle(&self) {
-        self.idle.fetch_add(1, Ordering::SeqCst);
+    // the epoll does not tell of them any more
+    fn pause(&self) {
+        os::epoll_ctl(
+            self.epoll(),
+            c::EPOLL_CTL_DEL,
+            self.listener.as_raw_fd(),
+            0,
+            LISTENER,
+        );
     }
 
-    // a worker ends its waiting
-    pub(crate) fn end_idle(&self) {
-        self.idle.fetch_sub(1, Ordering::SeqCst);
+    /// Whether something came for a worker that waits in the epoll.
+    pub fn is_wanted(&self) -> bool {
+        wait_for_one(self.epoll(), c::POLLIN, 0) == Woken::First
     }
 
-    // whether a worker waits for a connection
-    pub(crate) fn has_idle(&self) -> bool {
-        self.idle.load(Ordering::SeqCst) > 0
-    }
-
-    // whether no worker waits, and connections are parked
-    pub(crate) fn is_crowded(&self) -> bool {
-        !self.has_idle() && self.parked.load(Ordering::SeqCst) > 0
-    }
-
-    // whether no worker waits, and another connection has something for one
-    pub(crate) fn is_wanted(&self) -> bool {
-        !self.has_idle() && wait_for_one(self.epoll(), c::POLLIN, 0) == Woken::First
-    }
-
-    // Parks a connection until its client sends something. It is kept first and armed then, both under the lock, so
+    // Parks a connection until its client sends something. It is kept first and told of then, both under the lock, so
     // that nobody closes it in between.
-    pub(crate) fn park<W: Wait>(&self, rt: &W, parked: Parked) {
+    fn park<W: Wait>(&self, rt: &W, parked: Parked) {
         let fd = parked.stream.as_raw_fd();
-        let op = if parked.known {
-            c::EPOLL_CTL_MOD
+        let token = parked.token;
+        let mut desk = self.desk.lock(rt);
+        if desk.lot.keep(parked) {
+            return;
+        }
+        let events = c::EPOLLIN | c::EPOLLRDHUP;
+        if os::epoll_ctl(self.epoll(), c::EPOLL_CTL_ADD, fd, events, token) == 0 {
+            desk.lot.tell(token);
         } else {
-            c::EPOLL_CTL_ADD
-        };
-        let mut lot = self.lot.lock(rt);
-        match lot.keep(parked) {
-            Some(token) => {
-                let events = c::EPOLLIN | c::EPOLLRDHUP | c::EPOLLONESHOT;
-                if os::epoll_ctl(self.epoll(), op, fd, events, token) != 0 {
-                    drop(lot.take(token));
-                }
-            }
-            None => {}
+            desk.lot.forget(token);
         }
-        self.parked.store(lot.len() as u64, Ordering::SeqCst);
     }
 
-    // takes a parked connection out
-    fn unpark<W: Wait>(&self, rt: &W, token: u64) -> Option<Parked> {
-        let mut lot = self.lot.lock(rt);
-        let parked = lot.take(token);
-        self.parked.store(lot.len() as u64, Ordering::SeqCst);
-        parked
+    /// A connection that a worker has is about to be closed.
+    pub fn forget<W: Wait>(&self, rt: &W, token: u64) {
+        self.desk.lock(rt).lot.forget(token);
     }
 
-    // closes the parked connections that waited too long, where nobody did so just now
-    pub(crate) fn tidy<W: Wait + Clock>(&self, rt: &W) {
-        let now = clock_of(rt);
+    // whether nobody looked for late connections for a while; then the caller does
+    pub(crate) fn is_due(&self, now: u64) -> bool {
         let looked = self.looked.load(Ordering::SeqCst);
-        if now.saturating_sub(looked) < self.waits.tick {
-            return;
-        }
-        if self
-            .looked
-            .compare_exchange(looked, now, Ordering::SeqCst, Ordering::SeqCst)
-            .is_err()
-        {
-            return;
-        }
-        let mut lot = self.lot.lock(rt);
-        lot.expire(now, &self.waits);
-        self.parked.store(lot.len() as u64, Ordering::SeqCst);
+        now.saturating_sub(looked) >= self.waits.tick
+            && self
+                .looked
+                .compare_exchange(looked, now, Ordering::SeqCst, Ordering::SeqCst)
+                .is_ok()
     }
 
     // closes connections that were parked for a while, since no descriptor is left
     fn make_room<W: Wait + Clock>(&self, rt: &W) {
         let now = clock_of(rt);
-        let mut lot = self.lot.lock(rt);
-        lot.make_room(now, SPARED);
-        self.parked.store(lot.len() as u64, Ordering::SeqCst);
+        self.desk.lock(rt).lot.make_room(now, SPARED);
     }
 
-    // waits for a while for a connection that has something for a worker
-    pub(crate) fn look<W: Wait + Clock>(&self, rt: &W, alloc: Global, room: &mut Room) -> Look {
-        let mut events = [EpollEvent { events: 0, data: 0 }];
-        let time = i32::try_from(self.waits.tick).unwrap_or(i32::MAX);
-        let count = os::epoll_wait(self.epoll(), &mut events, time);
-        self.tidy(rt);
-        if count == 0 {
-            return Look::Nothing;
-        }
-        let token = events[0].data;
-        if token == LISTENER {
-            return self.accept(rt, alloc, room);
-        }
-        match self.unpark(rt, token) {
-            Some(mut parked) => {
-                parked.known = true;
-                room.hold(parked.got.as_slice());
-                self.receive(rt, alloc, parked, room)
-            }
-            None => Look::Nothing,
-        }
+    /// Reads of a connection of which something came, and parks it where that may still become a head.
+    pub fn read<W: Wait + Clock>(
+        &self,
+        rt: &W,
+        alloc: Global,
+        parked: Parked,
+        room: &mut Room,
+    ) -> Look {
+        room.hold(parked.got.as_slice());
+        self.receive(rt, alloc, parked, room)
     }
 
-    // accepts one connection, and wakes another worker for the next
-    fn accept<W: Wait + Clock>(&self, rt: &W, alloc: Global, room: &mut Room) -> Look {
+    /// Accepts one connection, and reads of it.
+    pub fn accept<W: Wait + Clock>(&self, rt: &W, alloc: Global, room: &mut Room) -> Look {
         match self.listener.accept() {
             Ok((stream, addr)) => {
-                self.arm(c::EPOLL_CTL_MOD);
+                let Some(token) = self.desk.lock(rt).lot.admit(stream.as_raw_fd()) else {
+                    return Look::Nothing;
+                };
                 let parked = Parked {
                     stream,
                     ip: ip_of(addr),
                     got: Vec::new(alloc),
                     since: 0,
                     born: 0,
-                    known: false,
+                    token,
                 };
                 room.clear();
                 self.receive(rt, alloc, parked, room)
             }
-            Err(error) => {
-                let look = self.refused(rt, &error);
-                self.arm(c::EPOLL_CTL_MOD);
-                look
-            }
+            Err(error) => self.refused(rt, &error),
         }
     }
 
-    // goes on after an error of accepting. Where no descriptor or memory is left, a while is waited.
+    // Goes on after an error of accepting. Where no descriptor or memory is left, nothing is accepted for a while, and others
+    // wait in the epoll.
     fn refused<W: Wait + Clock>(&self, rt: &W, error: &io::Error) -> Look {
         match refusal_of(error.raw_os_error().unwrap_or(0)) {
             Refusal::Fault => Look::Fault,
             Refusal::Full => {
+                self.pause();
+                self.hand_over(rt);
                 self.make_room(rt);
                 thread::sleep(rt, Duration::from_millis(FULL_SLEEP));
+                self.listen();
                 Look::Nothing
             }
             Refusal::Passing => Look::Nothing,
@@ -277,42 +250,28 @@ impl Hub {
     ) -> Look {
         match room.fill(&parked.stream, false) {
             Moved::Some(_) => match front_of(room.bytes()) {
-                Front::Open => {
-                    self.park_again(rt, alloc, parked, room);
-                    Look::Nothing
-                }
-                _ => given(parked),
+                Front::Open => self.park_again(rt, alloc, parked, room),
+                _ => return given(parked),
             },
-            Moved::Later => {
-                self.park_again(rt, alloc, parked, room);
-                Look::Nothing
-            }
-            Moved::End => if room.bytes().is_empty() {
-                Look::Nothing
-            } else {
-                given(parked)
-            },
-            Moved::Failed => Look::Nothing,
+            Moved::Later => self.park_again(rt, alloc, parked, room),
+            Moved::End if !room.bytes().is_empty() => return given(parked),
+            _ => self.forget(rt, parked.token),
         }
+        Look::Nothing
     }
 
-    // parks a connection with the bytes that stand in the room; closes it where there is no memory for them
-    pub(crate) fn park_again<W: Wait + Clock>(
-        &self,
-        rt: &W,
-        alloc: Global,
-        parked: Parked,
-        room: &Room,
-    ) {
+    /// Parks a connection with the bytes that stand in the room, in place of its own; closes it where there is no memory for them.
+    pub fn park_again<W: Wait + Clock>(&self, rt: &W, alloc: Global, parked: Parked, room: &Room) {
         let Parked {
             stream,
             ip,
             got: _,
             since,
             born,
-            known,
+            token,
         } = parked;
         let Ok(got) = Vec::from_slice(alloc, room.bytes()) else {
+            self.forget(rt, token);
             return;
         };
         let now = clock_of(rt);
@@ -326,7 +285,7 @@ impl Hub {
                 got,
                 since,
                 born,
-                known,
+                token,
             },
         );
     }
@@ -354,7 +313,7 @@ fn given(parked: Parked) -> Look {
     Look::Given(Taken {
         stream: parked.stream,
         ip: parked.ip,
-        known: parked.known,
+        token: parked.token,
     })
 }
 

@@ -1,7 +1,7 @@
 -- Connections that no worker has.
 use Rattle.std.specs.Prelude.{ℕ, ◌-◌, Bool, length, nat_le, ◌==◌, if◌then◌else◌}
 use Rattle.sockets.specs.declared.waits.Waits.{Waits}
-use Rattle.tcp_door.specs.declared.parked.Parked.{Parked}
+use Rattle.client_hub.specs.declared.parked.Parked.{Parked}
 
 -- nothing of a next head came for as long as a connection may be idle; or a part of one came, and the rest did not for
 -- as long as a head may take

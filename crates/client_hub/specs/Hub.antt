@@ -1,7 +1,7 @@
 -- Errors of accepting.
 use Rattle.std.specs.Prelude.{ℤ, pos, negsuc, ◌==◌, ◌||◌, if◌then◌else◌}
-use Rattle.tcp_door.specs.declared.hub.Refusal.{Refusal}
-use Rattle.tcp_door.specs.declared.hub.Refusal.TheVariants.{Fault, Full, Passing}
+use Rattle.client_hub.specs.declared.hub.Refusal.{Refusal}
+use Rattle.client_hub.specs.declared.hub.Refusal.TheVariants.{Fault, Full, Passing}
 
 -- EBADF, EINVAL and ENOTSOCK say that the listener is none; ENFILE, EMFILE, ENOMEM and ENOBUFS that nothing is left for
 -- now; any other error is of one connection alone

@@ -2,7 +2,7 @@
 
 ghost use Rattle.std.specs.Prelude.{◌≡◌, ◌≤◌, ◌<◌, length, IfSome};
 ghost use Rattle.http_wire.specs.declared.limits.TheConstants.{FEEDS_MAX, HEAD_MAX};
-ghost use Rattle.tcp_door.specs.Ahead.{IsFrontOf, line_feeds};
+ghost use Rattle.client_hub.specs.Ahead.{IsFrontOf, line_feeds};
 
 use http_wire::{FEEDS_MAX, FIELDS_MAX, HEAD_MAX};
 use httparse::Status;
@@ -14,28 +14,28 @@ const LINE_FEED: u8 = 10;
 
 const RETURN: u8 = 13;
 
-// what the bytes of a connection that came so far are
+/// What the bytes of a connection that came so far are.
 #[derive(Clone, Copy, Debug, PartialEq, Eq)]
-pub(crate) enum Front {
-    // they begin with a head of so many bytes, or with so many bytes that end like one and are none
+pub enum Front {
+    /// They begin with a head of so many bytes, or with so many bytes that end like one and are none.
     Whole(usize),
-    // they may still become a head within the limits
+    /// They may still become a head within the limits.
     Open,
-    // they never become one
+    /// They never become one.
     Never,
 }
 
-// what follows a head
+/// What follows a head.
 #[derive(Clone, Copy, Debug, PartialEq, Eq)]
-pub(crate) struct Behind {
-    // how many bytes of a body; none where that is not told so
+pub struct Behind {
+    /// How many bytes of a body; none where that is not told so.
     pub body: Option<u64>,
-    // whether the client asked for the end of the connection
+    /// Whether the client asked for the end of the connection.
     pub last: bool,
 }
 
-// what these bytes are
-pub(crate) fn front_of(bytes: &[u8]) -> Front
+/// What these bytes are (RFC 9112, sections 2 to 5).
+pub fn front_of(bytes: &[u8]) -> Front
     ensures { IsFrontOf bytes.now result }
 {
     if let Some(end) = head_end(bytes) {
@@ -120,9 +120,9 @@ fn feeds_in(bytes: &[u8]) -> usize
     bytes.iter().filter(|byte| **byte == LINE_FEED).count()
 }
 
-// what follows this head. Where the length of its body is told twice, or not in digits, or in another way, none is
-// known.
-pub(crate) fn what_follows(head: &[u8]) -> Behind {
+/// What follows this head (RFC 9112, section 6). Where the length of its body is told twice, or not in digits, or in another
+/// way, none is known.
+pub fn what_follows(head: &[u8]) -> Behind {
     let mut body = Some(0);
     let mut told = false;
     let mut last = true;

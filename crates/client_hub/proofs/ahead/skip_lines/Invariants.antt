@@ -1,5 +1,5 @@
 use Rattle.std.proofs.Common.{length, ◌-◌, ◌≤◌}
-use Rattle.tcp_door.proofs.ahead.skip_lines.Given as goal
+use Rattle.client_hub.proofs.ahead.skip_lines.Given as goal
 
 abbrev pub invariant-bytes : goal.invariant-bytes
 invariant-bytes l = l.at ≤ length l.bytes

@@ -1,5 +1,5 @@
 use Rattle.std.proofs.Common.{length, ◌-◌, ◌≤◌}
-use Rattle.tcp_door.proofs.ahead.head_end.Given as goal
+use Rattle.client_hub.proofs.ahead.head_end.Given as goal
 
 abbrev pub invariant-lines : goal.invariant-lines
 invariant-lines l = l.at ≤ length l.bytes

@@ -1,0 +1,13 @@
+//! Where connections of clients wait for a worker, and workers for a connection: one epoll of all connections that no
+//! worker has, until a head has come, and one worker at a time that waits in it.
+#![tactic(auto)]
+
+mod ahead;
+mod hub;
+mod parked;
+mod watch;
+
+pub use ahead::{Behind, Front, front_of, what_follows};
+pub use hub::{Hub, Look, Taken};
+pub use parked::Parked;
+pub use watch::{Stance, Task};

@@ -1,0 +1,260 @@
+//! Which worker waits for connections, and which sleep.
+
+use crate::hub::Hub;
+use crate::parked::{LISTENER, Lot, Parked};
+use libc::net as c;
+use os::EpollEvent;
+use sockets::clock_of;
+use std::sync::{CondvarTimeouts, MutexGuard, Wait};
+use std::time::{Clock, Duration};
+
+/// How many events are taken from the epoll at once.
+const BATCH: usize = 16;
+
+/// How long what is ready may wait for a worker before one more is called, in microseconds.
+const PATIENCE: u64 = 1_000;
+
+/// After so many milliseconds without a worker that waits in the epoll, the deputy does it.
+const DEPUTY_STEP: u64 = 25;
+
+/// Microseconds of a millisecond.
+const MICROS: u64 = 1_000;
+
+// what the workers share
+#[derive(Drop)]
+pub(crate) struct Desk {
+    pub lot: Lot,
+    pub post: Post,
+}
+
+// who waits in the epoll, and who sleeps
+#[derive(Drop)]
+pub(crate) struct Post {
+    // whether a worker waits in the epoll
+    watched: bool,
+    // how many waits in the epoll began, past 2^64 - 1 from 0 on
+    watches: u64,
+    // how many workers sleep until one is called
+    asleep: u64,
+    // whether one more sleeps, which looks from time to time
+    has_deputy: bool,
+    // whether a sleeper was called that is not yet awake
+    called: bool,
+    // whether the deputy was
+    summoned: bool,
+    // whether a sleeper was called to be the deputy that is not yet awake
+    appointed: bool,
+    // the microsecond since which what is ready waits
+    waiting: u64,
+}
+
+impl Post {
+    // nobody waits or sleeps
+    pub(crate) fn new() -> Post {
+        Post {
+            watched: false,
+            watches: 0,
+            asleep: 0,
+            has_deputy: false,
+            called: false,
+            summoned: false,
+            appointed: false,
+            waiting: 0,
+        }
+    }
+
+    // whether a worker waits in the epoll, or was called to
+    fn is_attended(&self) -> bool {
+        self.watched || self.called || self.summoned
+    }
+}
+
+/// What a worker is to do.
+#[derive(Drop)]
+pub enum Task {
+    /// To accept a connection.
+    Accept,
+    /// To read of this connection.
+    Read(Parked),
+}
+
+/// How it stands for a worker that would keep its connection between two requests.
+#[derive(Clone, Copy, Debug, PartialEq, Eq)]
+pub enum Stance {
+    /// Other connections are open.
+    Crowded,
+    /// It is the only connection, and another worker waits for the next one.
+    Attended,
+    /// It is the only connection, and no other worker is free.
+    Unattended,
+}
+
+// microseconds since a beginning of the machine's own; 0 where its clock cannot be read
+fn micros_of<C: Clock>(rt: &C) -> u64 {
+    match rt.monotonic() {
+        Ok(time) => u64::try_from(time.as_micros()).unwrap_or(u64::MAX),
+        Err(_) => 0,
+    }
+}
+
+impl Hub {
+    /// What a worker with no connection is to do. It waits in the epoll where nothing is ready, and sleeps where another one
+    /// waits there.
+    pub fn next_task<W: Wait + Clock>(&self, rt: &W) -> Task {
+        let mut desk = self.desk.lock(rt);
+        for _ in rt.forever() {
+            if let Some(token) = desk.lot.next_ready() {
+                self.share(rt, &mut *desk);
+                self.appoint(&mut desk.post);
+                if token == LISTENER {
+                    return Task::Accept;
+                }
+                if let Some(parked) = desk.lot.take(token) {
+                    return Task::Read(parked);
+                }
+            } else if desk.post.watched {
+                desk = self.sleep(rt, desk);
+            } else {
+                self.appoint(&mut desk.post);
+                desk = self.watch(rt, desk);
+            }
+        }
+        unreachable!()
+    }
+
+    // calls one more worker where what is ready has waited for long
+    fn share<W: Clock>(&self, rt: &W, desk: &mut Desk) {
+        if !desk.lot.is_ready() || desk.post.is_attended() {
+            return;
+        }
+        let now = micros_of(rt);
+        if now.saturating_sub(desk.post.waiting) >= PATIENCE {
+            self.call(&mut desk.post);
+            desk.post.waiting = now;
+        }
+    }
+
+    // calls a sleeper, the deputy last; whether one was there
+    fn call(&self, post: &mut Post) -> bool {
+        if post.asleep > 0 {
+            post.called = true;
+            self.sleepers.notify_one();
+            return true;
+        }
+        if post.has_deputy {
+            post.summoned = true;
+            self.deputy.notify_one();
+            return true;
+        }
+        false
+    }
+
+    // Calls a sleeper to be the deputy, where there is none. Each worker that does not sleep any more does so: while workers
+    // sleep, one of them is the deputy, or is on its way.
+    fn appoint(&self, post: &mut Post) {
+        if post.asleep > 0 && !post.has_deputy && !post.appointed {
+            post.appointed = true;
+            self.sleepers.notify_one();
+        }
+    }
+
+    // sleeps until one is called; one of the sleepers is the deputy
+    fn sleep<'b, W: Wait + Clock>(
+        &self,
+        rt: &W,
+        desk: MutexGuard<'b, Desk>,
+    ) -> MutexGuard<'b, Desk> {
+        let mut desk = desk;
+        if !desk.post.has_deputy {
+            return self.stand_by(rt, desk);
+        }
+        desk.post.asleep = desk.post.asleep.saturating_add(1);
+        desk = self.sleepers.wait(rt, desk);
+        desk.post.asleep = desk.post.asleep.saturating_sub(1);
+        desk.post.called = false;
+        desk.post.appointed = false;
+        desk
+    }
+
+    // Sleeps as the deputy, until it is called, or for a while nobody waited in the epoll: a worker that was to do so may
+    // have ended.
+    fn stand_by<'b, W: Wait + Clock>(
+        &self,
+        rt: &W,
+        desk: MutexGuard<'b, Desk>,
+    ) -> MutexGuard<'b, Desk> {
+        let mut desk = desk;
+        desk.post.has_deputy = true;
+        for _ in rt.forever() {
+            let seen = desk.post.watches;
+            desk = self
+                .deputy
+                .wait_timeout(rt, desk, Duration::from_millis(DEPUTY_STEP))
+                .0;
+            let is_missing = !desk.post.watched && desk.post.watches == seen;
+            if is_missing || desk.post.summoned {
+                break;
+            }
+        }
+        desk.post.has_deputy = false;
+        desk.post.summoned = false;
+        desk
+    }
+
+    // waits for a while in the epoll, and notes what came
+    fn watch<'b, W: Wait + Clock>(
+        &'b self,
+        rt: &W,
+        desk: MutexGuard<'b, Desk>,
+    ) -> MutexGuard<'b, Desk> {
+        let mut desk = desk;
+        desk.post.watched = true;
+        desk.post.watches = desk.post.watches.wrapping_add(1);
+        drop(desk);
+        let mut events = [EpollEvent { events: 0, data: 0 }; BATCH];
+        let time = i32::try_from(self.waits.tick).unwrap_or(i32::MAX);
+        let count = os::epoll_wait(self.epoll(), &mut events, time);
+        let now = micros_of(rt);
+        let mut desk = self.desk.lock(rt);
+        desk.post.watched = false;
+        desk.post.waiting = now;
+        if self.is_due(now / MICROS) {
+            desk.lot.expire(now / MICROS, &self.waits);
+        }
+        for event in &events[..count] {
+            if event.data == LISTENER {
+                desk.lot.note_listener();
+            } else if let Some(fd) = desk.lot.note(event.data) {
+                os::epoll_ctl(self.epoll(), c::EPOLL_CTL_DEL, fd, 0, 0);
+            }
+        }
+        desk
+    }
+
+    /// Lets another worker wait in the epoll, since this one may wait elsewhere; false where none is free.
+    pub fn hand_over<W: Wait>(&self, rt: &W) -> bool {
+        let mut desk = self.desk.lock(rt);
+        desk.post.is_attended() || self.call(&mut desk.post)
+    }
+
+    /// How it stands for a worker that would keep its connection; another one is called to wait for the next.
+    pub fn stance<W: Wait>(&self, rt: &W) -> Stance {
+        let mut desk = self.desk.lock(rt);
+        if desk.lot.len() > 1 {
+            return Stance::Crowded;
+        }
+        if desk.post.is_attended() || self.call(&mut desk.post) {
+            Stance::Attended
+        } else {
+            Stance::Unattended
+        }
+    }
+
+    /// Closes the parked connections that waited too long, where nobody did so just now.
+    pub fn tidy<W: Wait + Clock>(&self, rt: &W) {
+        let now = clock_of(rt);
+        if self.is_due(now) {
+            self.desk.lock(rt).lot.expire(now, &self.waits);
+        }
+    }
+}

@@ -1,3 +1,4 @@
 pub mod Ahead
 pub mod Hub
 pub mod Parked
+pub mod Watch

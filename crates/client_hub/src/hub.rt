@@ -109,7 +109,7 @@ impl Hub {
             looked: AtomicU64::new(0),
             waits,
         };
-        if hub.listen() {
+        if hub.listen(c::EPOLL_CTL_ADD, c::EPOLLIN) {
             Ok(hub)
         } else {
             Err(io::Error::from_raw_os_error(os::errno()))
@@ -129,21 +129,10 @@ impl Hub {
         self.poll.as_raw_fd()
     }
 
-    // the epoll tells of the listener's connections from now on
-    fn listen(&self) -> bool {
+    // Has the epoll tell of the listener's connections, or no longer do so. Only its first call needs memory.
+    fn listen(&self, op: i32, events: u32) -> bool {
         let fd = self.listener.as_raw_fd();
-        os::epoll_ctl(self.epoll(), c::EPOLL_CTL_ADD, fd, c::EPOLLIN, LISTENER) == 0
-    }
-
-    // the epoll does not tell of them any more
-    fn pause(&self) {
-        os::epoll_ctl(
-            self.epoll(),
-            c::EPOLL_CTL_DEL,
-            self.listener.as_raw_fd(),
-            0,
-            LISTENER,
-        );
+        os::epoll_ctl(self.epoll(), op, fd, events, LISTENER) == 0
     }
 
     /// Whether something came for a worker that waits in the epoll.
@@ -229,11 +218,11 @@ impl Hub {
         match refusal_of(error.raw_os_error().unwrap_or(0)) {
             Refusal::Fault => Look::Fault,
             Refusal::Full => {
-                self.pause();
+                self.listen(c::EPOLL_CTL_MOD, 0);
                 self.hand_over(rt);
                 self.make_room(rt);
                 thread::sleep(rt, Duration::from_millis(FULL_SLEEP));
-                self.listen();
+                self.listen(c::EPOLL_CTL_MOD, c::EPOLLIN);
                 Look::Nothing
             }
             Refusal::Passing => Look::Nothing,

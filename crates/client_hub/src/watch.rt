@@ -1,5 +1,8 @@
 //! Which worker waits for connections, and which sleep.
 
+ghost use Rattle.std.specs.Prelude.{◌≡◌, ◌≢◌, ◌⊎◌, ◌-◌, true, false};
+ghost use Rattle.client_hub.specs.Watch.{is_attended, is_staffed};
+
 use crate::hub::Hub;
 use crate::parked::{LISTENER, Lot, Parked};
 use libc::net as c;
@@ -46,6 +49,8 @@ pub(crate) struct Post {
     appointed: bool,
     // the microsecond since which what is ready waits
     waiting: u64,
+    // while workers sleep, one more is the deputy, or one of them was called to be it
+    ghost staffed: { is_staffed asleep has_deputy appointed ≡ true },
 }
 
 impl Post {
@@ -63,10 +68,103 @@ impl Post {
         }
     }
 
+    // a worker begins to wait in the epoll
+    fn begin_watch(&mut self) {
+        self.watched = true;
+        self.watches = self.watches.wrapping_add(1);
+    }
+
+    // it does not wait there any more, and what came waits from this microsecond on
+    fn end_watch(&mut self, now: u64) {
+        self.watched = false;
+        self.waiting = now;
+    }
+
+    // whether what is ready waits for long; then it waits from this microsecond on
+    fn is_late(&mut self, now: u64) -> bool {
+        if now.saturating_sub(self.waiting) < PATIENCE {
+            return false;
+        }
+        self.waiting = now;
+        true
+    }
+
+    // whether nobody waits in the epoll, and nobody began to since so many began
+    fn is_deserted(&self, watches: u64) -> bool {
+        !self.watched && self.watches == watches
+    }
+
+    // a worker falls asleep; whether as the deputy
+    fn fall_asleep(&mut self) -> bool
+        ensures deputy { result ≡ true → self.old.has_deputy ≡ false }
+        ensures stands { self.new.has_deputy ≡ true }
+    {
+        if self.has_deputy {
+            self.asleep = self.asleep.saturating_add(1);
+            return false;
+        }
+        self.has_deputy = true;
+        true
+    }
+
+    // a sleeper is awake; whether another one is to be called to be the deputy
+    fn wake_up(&mut self) -> bool
+        ensures calls { result ≡ self.new.appointed }
+        ensures asleep { self.new.asleep ≡ self.old.asleep - 1 }
+        ensures deputy { self.new.has_deputy ≡ self.old.has_deputy }
+    {
+        self.asleep = self.asleep.saturating_sub(1);
+        self.called = false;
+        self.appointed = self.asleep > 0 && !self.has_deputy;
+        self.appointed
+    }
+
+    // the deputy is none any more; whether a sleeper is to be called to be the next one
+    fn step_down(&mut self) -> bool
+        ensures calls { result ≡ true → self.new.appointed ≡ true }
+        ensures was { result ≡ false → self.new.asleep ≡ 0 ⊎ self.old.appointed ≡ true }
+        ensures asleep { self.new.asleep ≡ self.old.asleep }
+        ensures deputy { self.new.has_deputy ≡ false }
+    {
+        let was = self.appointed;
+        self.appointed = self.asleep > 0;
+        self.has_deputy = false;
+        self.summoned = false;
+        self.appointed && !was
+    }
+
     // whether a worker waits in the epoll, or was called to
-    fn is_attended(&self) -> bool {
+    fn is_attended(&self) -> bool
+        ensures { result ≡ is_attended self.now.watched self.now.called self.now.summoned }
+    {
         self.watched || self.called || self.summoned
     }
+
+    // who is to be called: a sleeper, and the deputy where no other one sleeps
+    fn pick(&mut self) -> Called
+        ensures nobody { result ≡ Called.Nobody → self.new ≡ self.old }
+        ensures asleep { result ≡ Called.Nobody → self.old.asleep ≡ 0 }
+        ensures deputy { result ≡ Called.Nobody → self.old.has_deputy ≡ false }
+        ensures attended { result ≢ Called.Nobody → is_attended self.new.watched self.new.called self.new.summoned ≡ true }
+    {
+        if self.asleep > 0 {
+            self.called = true;
+            return Called::Sleeper;
+        }
+        if self.has_deputy {
+            self.summoned = true;
+            return Called::Deputy;
+        }
+        Called::Nobody
+    }
+}
+
+// who is called of those that sleep
+#[derive(Clone, Copy, Debug, PartialEq, Eq)]
+enum Called {
+    Sleeper,
+    Deputy,
+    Nobody,
 }
 
 /// What a worker is to do.
@@ -105,7 +203,6 @@ impl Hub {
         for _ in rt.forever() {
             if let Some(token) = desk.lot.next_ready() {
                 self.share(rt, &mut *desk);
-                self.appoint(&mut desk.post);
                 if token == LISTENER {
                     return Task::Accept;
                 }
@@ -115,7 +212,6 @@ impl Hub {
             } else if desk.post.watched {
                 desk = self.sleep(rt, desk);
             } else {
-                self.appoint(&mut desk.post);
                 desk = self.watch(rt, desk);
             }
         }
@@ -127,35 +223,19 @@ impl Hub {
         if !desk.lot.is_ready() || desk.post.is_attended() {
             return;
         }
-        let now = micros_of(rt);
-        if now.saturating_sub(desk.post.waiting) >= PATIENCE {
+        if desk.post.is_late(micros_of(rt)) {
             self.call(&mut desk.post);
-            desk.post.waiting = now;
         }
     }
 
-    // calls a sleeper, the deputy last; whether one was there
+    // calls one of those that sleep; whether there is one
     fn call(&self, post: &mut Post) -> bool {
-        if post.asleep > 0 {
-            post.called = true;
-            self.sleepers.notify_one();
-            return true;
+        match post.pick() {
+            Called::Sleeper => self.sleepers.notify_one(),
+            Called::Deputy => self.deputy.notify_one(),
+            Called::Nobody => return false,
         }
-        if post.has_deputy {
-            post.summoned = true;
-            self.deputy.notify_one();
-            return true;
-        }
-        false
-    }
-
-    // Calls a sleeper to be the deputy, where there is none. Each worker that does not sleep any more does so: while workers
-    // sleep, one of them is the deputy, or is on its way.
-    fn appoint(&self, post: &mut Post) {
-        if post.asleep > 0 && !post.has_deputy && !post.appointed {
-            post.appointed = true;
-            self.sleepers.notify_one();
-        }
+        true
     }
 
     // sleeps until one is called; one of the sleepers is the deputy
@@ -165,14 +245,13 @@ impl Hub {
         desk: MutexGuard<'b, Desk>,
     ) -> MutexGuard<'b, Desk> {
         let mut desk = desk;
-        if !desk.post.has_deputy {
+        if desk.post.fall_asleep() {
             return self.stand_by(rt, desk);
         }
-        desk.post.asleep = desk.post.asleep.saturating_add(1);
         desk = self.sleepers.wait(rt, desk);
-        desk.post.asleep = desk.post.asleep.saturating_sub(1);
-        desk.post.called = false;
-        desk.post.appointed = false;
+        if desk.post.wake_up() {
+            self.sleepers.notify_one();
+        }
         desk
     }
 
@@ -184,20 +263,19 @@ impl Hub {
         desk: MutexGuard<'b, Desk>,
     ) -> MutexGuard<'b, Desk> {
         let mut desk = desk;
-        desk.post.has_deputy = true;
         for _ in rt.forever() {
             let seen = desk.post.watches;
             desk = self
                 .deputy
                 .wait_timeout(rt, desk, Duration::from_millis(DEPUTY_STEP))
                 .0;
-            let is_missing = !desk.post.watched && desk.post.watches == seen;
-            if is_missing || desk.post.summoned {
+            if desk.post.summoned || desk.post.is_deserted(seen) {
                 break;
             }
         }
-        desk.post.has_deputy = false;
-        desk.post.summoned = false;
+        if desk.post.step_down() {
+            self.sleepers.notify_one();
+        }
         desk
     }
 
@@ -208,16 +286,14 @@ impl Hub {
         desk: MutexGuard<'b, Desk>,
     ) -> MutexGuard<'b, Desk> {
         let mut desk = desk;
-        desk.post.watched = true;
-        desk.post.watches = desk.post.watches.wrapping_add(1);
+        desk.post.begin_watch();
         drop(desk);
         let mut events = [EpollEvent { events: 0, data: 0 }; BATCH];
         let time = i32::try_from(self.waits.tick).unwrap_or(i32::MAX);
         let count = os::epoll_wait(self.epoll(), &mut events, time);
         let now = micros_of(rt);
         let mut desk = self.desk.lock(rt);
-        desk.post.watched = false;
-        desk.post.waiting = now;
+        desk.post.end_watch(now);
         if self.is_due(now / MICROS) {
             desk.lot.expire(now / MICROS, &self.waits);
         }

@@ -1,5 +1,7 @@
 //! The gate of a worker.
 
+ghost use Rattle.std.specs.Prelude.{◌≡◌};
+
 use client_hub::Hub;
 use sockets::TcpGate;
 use std::alloc::Global;

@@ -249,7 +249,8 @@ impl Hub {
         Look::Nothing
     }
 
-    /// Parks a connection with the bytes that stand in the room, in place of its own; closes it where there is no memory for them.
+    /// Parks a connection with the bytes that stand in the room, in place of its own; closes it where there is no memory for
+    /// them.
     pub fn park_again<W: Wait + Clock>(&self, rt: &W, alloc: Global, parked: Parked, room: &Room) {
         let Parked {
             stream,
@@ -319,7 +320,7 @@ fn with_options(listener: TcpListener) -> io::Result<TcpListener> {
 }
 
 // the address of a client; an IPv4 address within an IPv6 one is that IPv4 address (RFC 4291, section 2.5.5.2)
-pub(crate) fn ip_of(addr: SocketAddr) -> Ip {
+fn ip_of(addr: SocketAddr) -> Ip {
     match addr.ip() {
         IpAddr::V4(ip) => Ip::V4(ip.to_bits()),
         IpAddr::V6(ip) => match ip.to_ipv4_mapped() {

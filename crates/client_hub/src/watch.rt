@@ -81,7 +81,7 @@ impl Post {
     }
 
     // whether what is ready waits for long; then it waits from this microsecond on
-    fn is_late(&mut self, now: u64) -> bool {
+    fn is_overdue(&mut self, now: u64) -> bool {
         if now.saturating_sub(self.waiting) < PATIENCE {
             return false;
         }
@@ -223,7 +223,7 @@ impl Hub {
         if !desk.lot.is_ready() || desk.post.is_attended() {
             return;
         }
-        if desk.post.is_late(micros_of(rt)) {
+        if desk.post.is_overdue(micros_of(rt)) {
             self.call(&mut desk.post);
         }
     }
@@ -307,10 +307,15 @@ impl Hub {
         desk
     }
 
-    /// Lets another worker wait in the epoll, since this one may wait elsewhere; false where none is free.
-    pub fn hand_over<W: Wait>(&self, rt: &W) -> bool {
+    // whether a worker waits in the epoll, or could be called to
+    fn attend(&self, post: &mut Post) -> bool {
+        post.is_attended() || self.call(post)
+    }
+
+    /// Lets another worker wait in the epoll, if one is free, since this one may wait elsewhere.
+    pub fn hand_over<W: Wait>(&self, rt: &W) {
         let mut desk = self.desk.lock(rt);
-        desk.post.is_attended() || self.call(&mut desk.post)
+        self.attend(&mut desk.post);
     }
 
     /// How it stands for a worker that would keep its connection; another one is called to wait for the next.
@@ -319,7 +324,7 @@ impl Hub {
         if desk.lot.len() > 1 {
             return Stance::Crowded;
         }
-        if desk.post.is_attended() || self.call(&mut desk.post) {
+        if self.attend(&mut desk.post) {
             Stance::Attended
         } else {
             Stance::Unattended

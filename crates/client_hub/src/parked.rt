@@ -1,6 +1,7 @@
 //! Connections that are open, and which of them have something for a worker.
 
-ghost use Rattle.std.specs.Prelude.{◌≡◌, ◌+◌, IfSome, IfNone};
+ghost use Rattle.std.specs.Prelude.{◌≡◌, ◌≢◌, ◌≤◌, ◌+◌, true, IfSome, IfNone};
+ghost use Rattle.client_hub.specs.declared.parked.TheConstants.{STREAK};
 ghost use Rattle.client_hub.specs.Parked.{is_late};
 
 use indexmap::IndexMap;
@@ -12,6 +13,9 @@ use std::os::fd::RawFd;
 
 /// The token of the listener.
 pub(crate) const LISTENER: u64 = 0;
+
+/// After how many turns in a row a connection is the only one that asks.
+const STREAK: u64 = 16;
 
 /// A connection that no worker has.
 #[derive(Drop)]
@@ -60,6 +64,9 @@ pub(crate) struct Lot {
     // the tokens of those that have something for a worker, in the order in which that came, and how many were taken
     ready: Vec<u64>,
     taken: usize,
+    // which connection was given to a worker last, and how many times in a row
+    last: u64,
+    streak: u64,
 }
 
 impl Lot {
@@ -70,12 +77,36 @@ impl Lot {
             next: 1,
             ready: Vec::new(alloc),
             taken: 0,
+            last: 0,
+            streak: 0,
         }
     }
 
     // how many are open
     pub(crate) fn len(&self) -> usize {
         self.slots.len()
+    }
+
+    // whether no other connection than this one asks: it was given to a worker many times in a row
+    pub(crate) fn is_favoured(&self, token: u64) -> bool
+        ensures last { result ≡ true → self.now.last ≡ token }
+        ensures many { result ≡ true → STREAK ≤ self.now.streak }
+    {
+        self.last == token && self.streak >= STREAK
+    }
+
+    // notes that this connection is given to a worker
+    fn count(&mut self, token: u64)
+        ensures next { self.new.next ≡ self.old.next }
+        ensures last { self.new.last ≡ token }
+        ensures other { self.old.last ≢ token → self.new.streak ≡ 1 }
+    {
+        self.streak = if self.last == token {
+            self.streak.saturating_add(1)
+        } else {
+            1
+        };
+        self.last = token;
     }
 
     // a connection of a worker, under the next token; none where no memory or no token is left
@@ -97,6 +128,7 @@ impl Lot {
             Err(_) => return None,
         }
         self.next = next;
+        self.count(token);
         Some(token)
     }
 
@@ -128,7 +160,9 @@ impl Lot {
     {
         let slot = self.slots.get_mut(&token)?;
         slot.queued = false;
-        slot.parked.take()
+        let parked = slot.parked.take()?;
+        self.count(token);
+        Some(parked)
     }
 
     // a connection is closed, or is about to be

@@ -179,11 +179,11 @@ pub enum Task {
 /// How it stands for a worker that would keep its connection between two requests.
 #[derive(Clone, Copy, Debug, PartialEq, Eq)]
 pub enum Stance {
-    /// Other connections are open.
+    /// Others are open, and this one does not ask alone, or no other worker is free.
     Crowded,
-    /// It is the only connection, and another worker waits for the next one.
+    /// It is the only one that is open, or the only one that asks, and another worker waits for the others.
     Attended,
-    /// It is the only connection, and no other worker is free.
+    /// It is the only one that is open, and no other worker is free.
     Unattended,
 }
 
@@ -318,16 +318,21 @@ impl Hub {
         self.attend(&mut desk.post);
     }
 
-    /// How it stands for a worker that would keep its connection; another one is called to wait for the next.
-    pub fn stance<W: Wait>(&self, rt: &W) -> Stance {
+    /// How it stands for a worker that would keep the connection with this token; another one is called to wait for the
+    /// others.
+    pub fn stance<W: Wait>(&self, rt: &W, token: u64) -> Stance {
         let mut desk = self.desk.lock(rt);
-        if desk.lot.len() > 1 {
+        let is_only = desk.lot.len() <= 1;
+        if !is_only && !desk.lot.is_favoured(token) {
             return Stance::Crowded;
         }
         if self.attend(&mut desk.post) {
-            Stance::Attended
-        } else {
+            return Stance::Attended;
+        }
+        if is_only {
             Stance::Unattended
+        } else {
+            Stance::Crowded
         }
     }
 

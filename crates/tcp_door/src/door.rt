@@ -29,10 +29,10 @@ const MOST_WAITS: u64 = u64::MAX;
 /// that sends no more, and no byte before, is closed. So is a connection without a byte of a next request after 60
 /// seconds, and one with a part of a head ten seconds after the first byte of that head.
 ///
-/// A worker keeps its connection between two requests where no other one is open. Else the connection goes back to the
-/// others and may be given again, to any worker. So a connection of a door is one run of requests: of one client at a time
-/// that is one TCP connection, and of several it may be a part of one, whose requests count anew towards the most of a
-/// connection.
+/// A worker keeps its connection between two requests where no other one is open, or where it was given sixteen times in a
+/// row and no other one since. Else the connection goes back to the others and may be given again, to any worker. So a
+/// connection of a door is one run of requests: of one client at a time that is one TCP connection, and of several it may be
+/// a part of one, whose requests count anew towards the most of a connection.
 ///
 /// One door at a time waits for clients, and serves what came one after the other; those of the other workers sleep. One of
 /// them is called before this one may wait for an origin or a client, and where what came has waited for a millisecond.

@@ -28,7 +28,7 @@ const MOST_WAITS: u64 = u64::MAX;
 pub(crate) enum Run {
     // it goes on
     Going,
-    // it was ended between two requests, since other connections are open; the connection is kept
+    // it was ended between two requests, since other connections ask too; the connection is kept
     Yielded,
     // it is over, and so is the connection
     Over,
@@ -52,7 +52,7 @@ pub(crate) struct Left {
 /// Reads the requests of a TCP connection. It does not tell what is left.
 ///
 /// It gives one head at a time, and the bytes of its body behind it (RFC 9112, section 6). Between two requests it ends
-/// where other connections are open, or where nothing comes for 60 seconds, or where a part of a head came and the rest does
+/// where other connections ask too, or where nothing comes for 60 seconds, or where a part of a head came and the rest does
 /// not for ten seconds. The waits for the bytes of one body may take ten seconds in all, and one second more for each
 /// 65,536 bytes that came; past that the client is too slow, and the read fails. A failed read counts a fault.
 #[derive(Drop)]
@@ -200,12 +200,12 @@ impl<W: Wait + Clock + Drop> SocketSource<W> {
         Moved::Failed
     }
 
-    // Reads more of the next head; `Later` where the run is to end: where other connections are open, this one waits with
+    // Reads more of the next head; `Later` where the run is to end: where other connections ask too, this one waits with
     // them. Where nothing of it came, it is read without looking at the time.
     fn more(&mut self) -> Moved
         ensures faults { self.new.faults ≡ self.old.faults }
     {
-        let stance = self.hub.stance(&self.rt);
+        let stance = self.hub.stance(&self.rt, self.token);
         if stance == Stance::Crowded || (stance == Stance::Unattended && self.is_to_look()) {
             self.run = Run::Yielded;
             return Moved::Later;
@@ -248,7 +248,7 @@ impl<W: Wait + Clock + Drop> SocketSource<W> {
         Moved::Failed
     }
 
-    // waits for a while for this connection; `Second` where another one is open
+    // waits for a while for this connection; `Second` where others ask too
     fn wait_once(&mut self) -> Woken
         ensures faults { self.new.faults ≡ self.old.faults }
     {
@@ -260,7 +260,7 @@ impl<W: Wait + Clock + Drop> SocketSource<W> {
             return Woken::Neither;
         }
         let fd = self.link.stream.as_raw_fd();
-        match self.hub.stance(&self.rt) {
+        match self.hub.stance(&self.rt, self.token) {
             Stance::Crowded => Woken::Second,
             Stance::Attended => wait_for_one(fd, c::POLLIN, left.min(LOOK_STEP)),
             Stance::Unattended => wait_for_two(fd, self.hub.epoll(), left.min(self.hub.waits.tick)),

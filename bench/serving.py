@@ -1,7 +1,7 @@
-"""Measures `cdnid serve` beside nginx; `bench/serve.sh` says what and how.
+"""Measures `cdnid serve` beside nginx; `bench/serve.sh` and `bench/load.sh` say what and how.
 
-Usage: serving.py PROGRAM WORKERS TIMES REQUESTS [cut]. For itself it runs `serving.py --one SERVER CASE PROGRAM WORKERS REQUESTS [cut]`
-in a network namespace, once a measurement.
+Usage: serving.py PROGRAM WORKERS TIMES REQUESTS [cut], or serving.py PROGRAM WORKERS TIMES load. For itself it runs
+`serving.py --one SERVER CASE PROGRAM WORKERS REQUESTS [cut]` in a network namespace, once a measurement.
 """
 import json
 import os
@@ -34,6 +34,9 @@ GOALS = {
     4: {"1k-1": 0.6, "1k-4": 0.6, "1k-64": 0.65, "64k": 0.8, "range": 1.0, "close": 0.75, "miss": 1.0},
     64: {"64k": 0.9, "range": 1.3, "close": 1.1, "miss": 1.1},
 }
+
+# What wrk asks for over 64 connections for a second, as fast as it is answered.
+LOADS = {"load-1k": ("1 KB", "/1k"), "load-64k": ("64 KB", "/64k")}
 
 # The most of the first answer beside held connections, in milliseconds.
 GOAL_MS = 5.0
@@ -160,6 +163,15 @@ def drive(address, case, count):
     return made
 
 
+def load(address, path):
+    """How many requests a second are answered at most."""
+    words = ["wrk", "-t", "2", "-c", "64", "-d", "1s", "-H", "Host: v.example", "http://%s:%d%s" % (*address, path)]
+    told = subprocess.run(words, stdout=subprocess.PIPE, text=True, check=True).stdout
+    if "Non-2xx" in told or "Socket errors" in told:
+        raise SystemExit("not all was answered: " + told)
+    return float(re.search(r"Requests/sec: *([0-9.]+)", told).group(1))
+
+
 class Cutter:
     """A process that cuts the rows five times a second, reads each log file whole and drops it, until it is ended."""
 
@@ -204,7 +216,7 @@ def first_answer(address, half):
 
 
 def one(server, case, program, workers, count, cuts):
-    """One measurement, in a namespace of its own: microseconds a request, or milliseconds of a first answer."""
+    """One measurement, in a namespace of its own: microseconds a request, milliseconds of a first answer, or requests a second."""
     subprocess.run(["ip", "link", "set", "lo", "up", "mtu", "1500"], check=True)
     room = tempfile.mkdtemp(dir="/dev/shm")
     os.chmod(room, 0o777)
@@ -214,6 +226,7 @@ def one(server, case, program, workers, count, cuts):
         await_port(ORIGIN)
         if server == "cdnid":
             address, words = CDNID, [program, "serve", "--listen", "%s:%d" % CDNID, "--metadata", "http://%s:%d/i" % ORIGIN]
+            words += ["--rows", "100000"] if case in LOADS else []
             words += [] if workers == 1 else ["--workers", str(workers)]
         else:
             address, words = NGINX, ["nginx", "-c", room + "/nginx.conf"]
@@ -226,6 +239,8 @@ def one(server, case, program, workers, count, cuts):
         warm.socket.close()
         if case in ("idle", "half"):
             return first_answer(address, case == "half")
+        if case in LOADS:
+            return load(address, LOADS[case][1])
         pids = processes(started[-1])
         before = processor_time(pids)
         cutter = Cutter() if cuts and server == "cdnid" else None
@@ -249,15 +264,26 @@ def measured(server, case, program, workers, count, cuts):
     return float(ended.stdout)
 
 
+def medians(case, program, workers, times, count, cuts):
+    """What so many measurements of both servers give, in turn."""
+    figures = {"cdnid": [], "nginx": []}
+    for _ in range(times):
+        for server in figures:
+            figures[server].append(measured(server, case, program, workers, count, cuts))
+    return (statistics.median(figures[server]) for server in ("cdnid", "nginx"))
+
+
+def loads(program, workers, times):
+    for case, (name, _) in LOADS.items():
+        ours, theirs = medians(case, program, workers, times, 0, [])
+        print(f"{name}, 64 connections: {ours:,.0f} and {theirs:,.0f} requests a second, {ours / theirs:.2f} times", flush=True)
+
+
 def main():
     program, workers, times, count, cuts = sys.argv[1], int(sys.argv[2]), int(sys.argv[3]), int(sys.argv[4]), sys.argv[5:]
     late = False
     for case in [*CASES, "idle", "half"]:
-        figures = {"cdnid": [], "nginx": []}
-        for _ in range(times):
-            for server in figures:
-                figures[server].append(measured(server, case, program, workers, count, cuts))
-        ours, theirs = (statistics.median(figures[server]) for server in ("cdnid", "nginx"))
+        ours, theirs = medians(case, program, workers, times, count, cuts)
         if case in CASES:
             goal = GOALS.get(workers, {}).get(case)
             name, ratio = CASES[case][0], ours / theirs
@@ -274,5 +300,7 @@ if sys.argv[1] == "--cut":
     cut()
 elif sys.argv[1] == "--one":
     print(one(sys.argv[2], sys.argv[3], sys.argv[4], int(sys.argv[5]), int(sys.argv[6]), sys.argv[7:] == ["cut"]))
+elif sys.argv[4] == "load":
+    loads(sys.argv[1], int(sys.argv[2]), int(sys.argv[3]))
 else:
     main()

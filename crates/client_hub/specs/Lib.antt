@@ -1,4 +1,5 @@
 pub mod Ahead
+pub mod Desk
 pub mod Hub
 pub mod Parked
 pub mod Watch

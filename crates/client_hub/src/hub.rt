@@ -4,8 +4,9 @@ ghost use Rattle.std.specs.Prelude.{◌≡◌};
 ghost use Rattle.client_hub.specs.Hub.{refusal_of};
 
 use crate::ahead::{Front, front_of};
+use crate::desk::Desk;
 use crate::parked::{LISTENER, Lot, Parked};
-use crate::watch::{Desk, Post};
+use crate::post::Post;
 use libc::net as c;
 use location_acl::Ip;
 use mio::Poll;

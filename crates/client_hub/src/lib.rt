@@ -3,11 +3,13 @@
 #![tactic(auto)]
 
 mod ahead;
+mod desk;
 mod hub;
 mod parked;
+mod post;
 mod watch;
 
 pub use ahead::{Behind, Front, front_of, what_follows};
+pub use desk::{Stance, Task};
 pub use hub::{Hub, Look, Taken};
 pub use parked::Parked;
-pub use watch::{Stance, Task};

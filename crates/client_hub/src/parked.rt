@@ -1,13 +1,17 @@
 //! Connections that are open, and which of them have something for a worker.
 
-ghost use Rattle.std.specs.Prelude.{◌≡◌, ◌≢◌, ◌≤◌, ◌+◌, true, IfSome, IfNone};
-ghost use Rattle.client_hub.specs.declared.parked.TheConstants.{STREAK};
-ghost use Rattle.client_hub.specs.Parked.{is_late};
+ghost use Rattle.std.specs.Prelude.{◌≡◌, ◌<◌, ◌+◌, ◌∷◌, ◌++◌, [], true, Some, None, nat_eq, not, filter, length, IfSome, IfNone, IsSome, IsTrue, ◌↔◌};
+ghost use Rattle.std.specs.VecDeque.{deque_len, deque_capacity};
+ghost use Rattle.std.specs.Option.{option_to_list};
+ghost use Rattle.indexmap.specs.IndexMap.{index_map_len, IsEmpty, IsUnchanged, Updates};
+ghost use Rattle.client_hub.specs.declared.parked.TheConstants.{LISTENER};
+ghost use Rattle.client_hub.specs.Parked.{is_late, is_expired, is_spare, is_favoured, new_slot, slot_at, parked_at, told_fd, with_parked, told, IsCounted, KeepsOrder};
 
 use indexmap::IndexMap;
 use location_acl::Ip;
 use sockets::Waits;
 use std::alloc::Global;
+use std::collections::VecDeque;
 use std::net::TcpStream;
 use std::os::fd::RawFd;
 
@@ -46,12 +50,10 @@ fn is_late(parked: &Parked, now: u64, waits: &Waits) -> bool
 
 // what is known of an open connection
 #[derive(Drop)]
-struct Slot {
+pub(crate) struct Slot {
     fd: RawFd,
     // whether the epoll tells of it
     told: bool,
-    // whether it stands among the ready ones
-    queued: bool,
     // the connection, unless a worker has it
     parked: Option<Parked>,
 }
@@ -61,9 +63,8 @@ struct Slot {
 pub(crate) struct Lot {
     slots: IndexMap<u64, Slot>,
     next: u64,
-    // the tokens of those that have something for a worker, in the order in which that came, and how many were taken
-    ready: Vec<u64>,
-    taken: usize,
+    // the tokens of those that have something for a worker, in the order in which the epoll told of them
+    ready: VecDeque<u64>,
     // which connection was given to a worker last, and how many times in a row
     last: u64,
     streak: u64,
@@ -71,35 +72,39 @@ pub(crate) struct Lot {
 
 impl Lot {
     // none; the tokens begin with 1
-    pub(crate) fn new(alloc: Global) -> Lot {
+    pub(crate) fn new(alloc: Global) -> Lot
+        ensures empty { IsEmpty result.slots }
+        ensures ready { result.ready.items ≡ [] }
+    {
         Lot {
             slots: IndexMap::new(alloc),
             next: 1,
-            ready: Vec::new(alloc),
-            taken: 0,
+            ready: VecDeque::new(alloc),
             last: 0,
             streak: 0,
         }
     }
 
     // how many are open
-    pub(crate) fn len(&self) -> usize {
+    pub(crate) fn len(&self) -> usize
+        ensures { result ≡ index_map_len self.now.slots }
+    {
         self.slots.len()
     }
 
     // whether no other connection than this one asks: it was given to a worker many times in a row
     pub(crate) fn is_favoured(&self, token: u64) -> bool
-        ensures last { result ≡ true → self.now.last ≡ token }
-        ensures many { result ≡ true → STREAK ≤ self.now.streak }
+        ensures { result ≡ is_favoured self.now token }
     {
         self.last == token && self.streak >= STREAK
     }
 
     // notes that this connection is given to a worker
     fn count(&mut self, token: u64)
+        ensures counted { IsCounted self.old self.new token }
+        ensures slots { self.new.slots ≡ self.old.slots }
+        ensures ready { self.new.ready ≡ self.old.ready }
         ensures next { self.new.next ≡ self.old.next }
-        ensures last { self.new.last ≡ token }
-        ensures other { self.old.last ≢ token → self.new.streak ≡ 1 }
     {
         self.streak = if self.last == token {
             self.streak.saturating_add(1)
@@ -113,14 +118,16 @@ impl Lot {
     pub(crate) fn admit(&mut self, fd: RawFd) -> Option<u64>
         ensures token { IfSome result (λ token. token ≡ self.old.next) }
         ensures next { IfSome result (λ token. self.new.next ≡ self.old.next + 1) }
-        ensures kept { IfNone result (self.new.next ≡ self.old.next) }
+        ensures slot { IfSome result (λ token. Updates nat_eq self.old.slots self.new.slots token (Some (new_slot fd))) }
+        ensures counted { IfSome result (λ token. IsCounted self.old self.new token) }
+        ensures ready { self.new.ready ≡ self.old.ready }
+        ensures kept { IfNone result ((self.new.next ≡ self.old.next) × IsUnchanged self.old.slots self.new.slots) }
     {
         let token = self.next;
         let next = token.checked_add(1)?;
         let slot = Slot {
             fd,
             told: false,
-            queued: false,
             parked: None,
         };
         match self.slots.insert(token, slot) {
@@ -134,7 +141,11 @@ impl Lot {
 
     // Keeps a connection that no worker has any more; whether the epoll tells of it. One that was not admitted is closed.
     pub(crate) fn keep(&mut self, parked: Parked) -> bool
-        ensures { self.new.next ≡ self.old.next }
+        ensures told { IfSome (slot_at self.old parked.token) (λ slot. result ≡ slot.told) }
+        ensures kept { IfSome (slot_at self.old parked.token) (λ slot.
+            Updates nat_eq self.old.slots self.new.slots parked.token (Some (with_parked slot (Some parked)))) }
+        ensures closed { IfNone (slot_at self.old parked.token) ((result ≡ true) × IsUnchanged self.old.slots self.new.slots) }
+        ensures order { KeepsOrder self.old self.new }
     {
         match self.slots.get_mut(&parked.token) {
             Some(slot) => {
@@ -147,7 +158,9 @@ impl Lot {
 
     // the epoll tells of this connection from now on
     pub(crate) fn tell(&mut self, token: u64)
-        ensures { self.new.next ≡ self.old.next }
+        ensures told { IfSome (slot_at self.old token) (λ slot.
+            Updates nat_eq self.old.slots self.new.slots token (Some (told slot))) }
+        ensures order { KeepsOrder self.old self.new }
     {
         if let Some(slot) = self.slots.get_mut(&token) {
             slot.told = true;
@@ -156,10 +169,13 @@ impl Lot {
 
     // takes a connection out for a worker
     pub(crate) fn take(&mut self, token: u64) -> Option<Parked>
-        ensures { self.new.next ≡ self.old.next }
+        ensures given { result ≡ parked_at self.old token }
+        ensures taken { IfSome result (λ _. parked_at self.new token ≡ None) }
+        ensures counted { IfSome result (λ _. IsCounted self.old self.new token) }
+        ensures ready { self.new.ready ≡ self.old.ready }
+        ensures next { self.new.next ≡ self.old.next }
     {
         let slot = self.slots.get_mut(&token)?;
-        slot.queued = false;
         let parked = slot.parked.take()?;
         self.count(token);
         Some(parked)
@@ -167,20 +183,22 @@ impl Lot {
 
     // a connection is closed, or is about to be
     pub(crate) fn forget(&mut self, token: u64)
-        ensures { self.new.next ≡ self.old.next }
+        ensures gone { Updates nat_eq self.old.slots self.new.slots token None }
+        ensures order { KeepsOrder self.old self.new }
     {
         drop(self.slots.swap_remove(&token));
     }
 
     // Notes that something came of this connection. Where a worker has it, the epoll is to forget this descriptor.
     pub(crate) fn note(&mut self, token: u64) -> Option<RawFd>
-        ensures { self.new.next ≡ self.old.next }
+        ensures forgotten { result ≡ told_fd self.old token }
+        ensures queued { IsSome (parked_at self.old token) → deque_len self.old.ready < deque_capacity self.old.ready →
+            self.new.ready.items ≡ self.old.ready.items ++ token ∷ [] }
+        ensures next { self.new.next ≡ self.old.next }
     {
         let slot = self.slots.get_mut(&token)?;
         if slot.parked.is_some() {
-            if !slot.queued {
-                slot.queued = self.ready.push(token).is_ok();
-            }
+            let _ = self.ready.push_back(token);
             return None;
         }
         if slot.told {
@@ -192,48 +210,61 @@ impl Lot {
 
     // notes that something came for the listener
     pub(crate) fn note_listener(&mut self)
-        ensures { self.new.next ≡ self.old.next }
+        ensures queued { deque_len self.old.ready < deque_capacity self.old.ready →
+            self.new.ready.items ≡ self.old.ready.items ++ LISTENER ∷ [] }
+        ensures next { self.new.next ≡ self.old.next }
     {
-        let _ = self.ready.push(LISTENER);
+        let _ = self.ready.push_back(LISTENER);
     }
 
-    // the next token of those that have something for a worker
+    // the first token of those that have something for a worker
     pub(crate) fn next_ready(&mut self) -> Option<u64>
-        ensures { self.new.next ≡ self.old.next }
+        ensures first { self.old.ready.items ≡ option_to_list result ++ self.new.ready.items }
+        ensures none { IfNone result (self.old.ready.items ≡ []) }
+        ensures slots { self.new.slots ≡ self.old.slots }
+        ensures next { self.new.next ≡ self.old.next }
     {
-        let token = self.ready.get(self.taken).copied()?;
-        self.taken = self.taken.saturating_add(1);
-        if self.taken >= self.ready.len() {
-            self.ready.clear();
-            self.taken = 0;
-        }
-        Some(token)
+        self.ready.pop_front()
     }
 
     // whether some have something for a worker
-    pub(crate) fn is_ready(&self) -> bool {
+    pub(crate) fn is_ready(&self) -> bool
+        ensures { IsTrue result ↔ (0 < length self.now.ready.items) }
+    {
         !self.ready.is_empty()
     }
 
     // closes those that waited too long
     pub(crate) fn expire(&mut self, now: u64, waits: &Waits)
-        ensures { self.new.next ≡ self.old.next }
+        ensures kept { self.new.slots.entries ≡ filter (λ entry. not (is_expired now waits.now entry.1)) self.old.slots.entries }
+        ensures order { KeepsOrder self.old self.new }
     {
-        self.slots
-            .retain(|_: &u64, slot: &mut Slot| match &slot.parked {
-                Some(parked) => !is_late(parked, now, waits),
-                None => true,
-            });
+        self.slots.retain(
+            |_token: &u64, slot: &mut Slot| -> bool
+                ensures { (result ≡ not (is_expired now waits.entry.now slot.old)) × (slot.new ≡ slot.old) }
+            {
+                match &slot.parked {
+                    Some(parked) => !is_late(parked, now, waits),
+                    None => true,
+                }
+            },
+        );
     }
 
     // closes those that waited for this many milliseconds
     pub(crate) fn make_room(&mut self, now: u64, time: u64)
-        ensures { self.new.next ≡ self.old.next }
+        ensures kept { self.new.slots.entries ≡ filter (λ entry. not (is_spare now time entry.1)) self.old.slots.entries }
+        ensures order { KeepsOrder self.old self.new }
     {
-        self.slots
-            .retain(|_: &u64, slot: &mut Slot| match &slot.parked {
-                Some(parked) => now.saturating_sub(parked.since) < time,
-                None => true,
-            });
+        self.slots.retain(
+            |_token: &u64, slot: &mut Slot| -> bool
+                ensures { (result ≡ not (is_spare now time slot.old)) × (slot.new ≡ slot.old) }
+            {
+                match &slot.parked {
+                    Some(parked) => now.saturating_sub(parked.since) < time,
+                    None => true,
+                }
+            },
+        );
     }
 }

@@ -6,7 +6,8 @@ use http_wire::{BodyRead, Found, Head, HeadRead, Inbox, body_of, read_head};
 use location_acl::Ip;
 use std::alloc::{AllocError, Global};
 use std::io::{Read, Write};
-use std::net::{IpAddr, Ipv4Addr, Ipv6Addr, Net, Shutdown, SocketAddr, TcpStream};
+use std::net::{IpAddr, Ipv4Addr, Ipv6Addr, Net, Shutdown, SocketAddr, TcpListener, TcpStream};
+use std::rt::Files;
 use std::sync::Wait;
 use std::sync::atomic::{AtomicU64, Ordering};
 use std::test::Fail;
@@ -265,15 +266,31 @@ fn half_client<N: Net<Stream = TcpStream>>(
     Ok(good.saturating_add(one_if(ends(&half))))
 }
 
-#[test]
-fn serves_clients_one_after_the_other(rt: HostRuntime) -> Result<(), Fail> {
-    let alloc = rt.alloc();
-    let mut outside = StdOutside::new(rt.clone()?, WAITS);
+// an outside that listens on this machine, and where
+fn listening<
+    N: Net<Listener = TcpListener, Stream = TcpStream>
+        + Threads
+        + Wait
+        + Sync
+        + Clock
+        + Files
+        + Clone
+        + Send
+        + Drop,
+>(rt: &N, alloc: Global, waits: Waits) -> Result<(StdOutside<N>, SocketAddr), Fail> {
+    let mut outside = StdOutside::new(rt.clone()?, waits);
     outside
-        .listen(&rt, alloc, b"127.0.0.1:0")
+        .listen(rt, alloc, b"127.0.0.1:0")
         .ok()
         .ok_or("listen")?;
     let addr = outside.local_addr().ok_or("address")?;
+    Ok((outside, addr))
+}
+
+#[test]
+fn serves_clients_one_after_the_other(rt: HostRuntime) -> Result<(), Fail> {
+    let alloc = rt.alloc();
+    let (mut outside, addr) = listening(&rt, alloc, WAITS)?;
     let mut worker = outside.worker(&rt, alloc).ok().ok_or("worker")?;
     let door = &mut worker.door;
     let (served, good) = join(
@@ -338,12 +355,7 @@ fn shy_clients<N: Net<Stream = TcpStream> + Clock>(
 #[test]
 fn parks_what_may_become_a_head(rt: HostRuntime) -> Result<(), Fail> {
     let alloc = rt.alloc();
-    let mut outside = StdOutside::new(rt.clone()?, WAITS);
-    outside
-        .listen(&rt, alloc, b"127.0.0.1:0")
-        .ok()
-        .ok_or("listen")?;
-    let addr = outside.local_addr().ok_or("address")?;
+    let (mut outside, addr) = listening(&rt, alloc, WAITS)?;
     let mut worker = outside.worker(&rt, alloc).ok().ok_or("worker")?;
     let door = &mut worker.door;
     let (served, good) = join(
@@ -392,12 +404,7 @@ fn crowd<N: Net<Stream = TcpStream> + Clock>(
 #[test]
 fn idle_connections_take_no_worker(rt: HostRuntime) -> Result<(), Fail> {
     let alloc = rt.alloc();
-    let mut outside = StdOutside::new(rt.clone()?, WAITS);
-    outside
-        .listen(&rt, alloc, b"127.0.0.1:0")
-        .ok()
-        .ok_or("listen")?;
-    let addr = outside.local_addr().ok_or("address")?;
+    let (mut outside, addr) = listening(&rt, alloc, WAITS)?;
     let mut worker = outside.worker(&rt, alloc).ok().ok_or("worker")?;
     let door = &mut worker.door;
     let (served, good) = join(
@@ -480,12 +487,7 @@ fn last_client<N: Net<Stream = TcpStream>>(
 #[test]
 fn late_connections_are_closed(rt: HostRuntime) -> Result<(), Fail> {
     let alloc = rt.alloc();
-    let mut outside = StdOutside::new(rt.clone()?, QUICK);
-    outside
-        .listen(&rt, alloc, b"127.0.0.1:0")
-        .ok()
-        .ok_or("listen")?;
-    let addr = outside.local_addr().ok_or("address")?;
+    let (mut outside, addr) = listening(&rt, alloc, QUICK)?;
     let mut worker = outside.worker(&rt, alloc).ok().ok_or("worker")?;
     let door = &mut worker.door;
     let (served, good) = join(
@@ -558,12 +560,7 @@ fn deaf_client<N: Net<Stream = TcpStream> + Clock>(
 #[test]
 fn slow_clients_are_given_up(rt: HostRuntime) -> Result<(), Fail> {
     let alloc = rt.alloc();
-    let mut outside = StdOutside::new(rt.clone()?, QUICK);
-    outside
-        .listen(&rt, alloc, b"127.0.0.1:0")
-        .ok()
-        .ok_or("listen")?;
-    let addr = outside.local_addr().ok_or("address")?;
+    let (mut outside, addr) = listening(&rt, alloc, QUICK)?;
     let mut worker = outside.worker(&rt, alloc).ok().ok_or("worker")?;
     let door = &mut worker.door;
     let mut answer = Vec::new(alloc);
@@ -691,6 +688,31 @@ struct Job<W: Wait + Clock + Clone + Drop> {
     served: Served,
 }
 
+// so many workers that served nothing yet
+fn jobs_of<
+    N: Net<Listener = TcpListener, Stream = TcpStream>
+        + Threads
+        + Wait
+        + Sync
+        + Clock
+        + Files
+        + Clone
+        + Send
+        + Drop,
+>(rt: &N, alloc: Global, outside: &mut StdOutside<N>, count: u64) -> Result<Vec<Job<N>>, Fail> {
+    let mut jobs = Vec::new(alloc);
+    for _ in 0..count {
+        let worker = outside.worker(rt, alloc).ok().ok_or("worker")?;
+        jobs.push(Job {
+            door: worker.door,
+            served: NOTHING,
+        })
+        .ok()
+        .ok_or("memory")?;
+    }
+    Ok(jobs)
+}
+
 // serves so many runs of requests of one door, and then says so
 fn serve_some<R: Threads + Wait + Sync, W: Wait + Clock + Clone + Send + Drop>(
     rt: &R,
@@ -772,22 +794,8 @@ const WORKERS: u64 = 4;
 #[test]
 fn many_workers_share_the_connections(rt: HostRuntime) -> Result<(), Fail> {
     let alloc = rt.alloc();
-    let mut outside = StdOutside::new(rt.clone()?, WAITS);
-    outside
-        .listen(&rt, alloc, b"127.0.0.1:0")
-        .ok()
-        .ok_or("listen")?;
-    let addr = outside.local_addr().ok_or("address")?;
-    let mut jobs = Vec::new(alloc);
-    for _ in 0..WORKERS {
-        let worker = outside.worker(&rt, alloc).ok().ok_or("worker")?;
-        jobs.push(Job {
-            door: worker.door,
-            served: NOTHING,
-        })
-        .ok()
-        .ok_or("memory")?;
-    }
+    let (mut outside, addr) = listening(&rt, alloc, WAITS)?;
+    let mut jobs = jobs_of(&rt, alloc, &mut outside, WORKERS)?;
     let ended = AtomicU64::new(0);
     let all = jobs.as_mut_slice();
     let (_, good) = join(
@@ -827,22 +835,8 @@ fn clients_in_the_way<N: Net<Stream = TcpStream> + Clock>(
 #[test]
 fn workers_that_wait_stop_no_other(rt: HostRuntime) -> Result<(), Fail> {
     let alloc = rt.alloc();
-    let mut outside = StdOutside::new(rt.clone()?, WAITS);
-    outside
-        .listen(&rt, alloc, b"127.0.0.1:0")
-        .ok()
-        .ok_or("listen")?;
-    let addr = outside.local_addr().ok_or("address")?;
-    let mut jobs = Vec::new(alloc);
-    for _ in 0..3 {
-        let worker = outside.worker(&rt, alloc).ok().ok_or("worker")?;
-        jobs.push(Job {
-            door: worker.door,
-            served: NOTHING,
-        })
-        .ok()
-        .ok_or("memory")?;
-    }
+    let (mut outside, addr) = listening(&rt, alloc, WAITS)?;
+    let mut jobs = jobs_of(&rt, alloc, &mut outside, 3)?;
     let mut answer = Vec::new(alloc);
     answer.resize(16_000_000, 98u8)?;
     let answer = answer.as_slice();

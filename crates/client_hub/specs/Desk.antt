@@ -1,0 +1,21 @@
+-- What a worker with no connection does next.
+use Rattle.std.specs.Prelude.{ℕ, Bool, List, [], ◌∷◌, ◌==◌, if◌then◌else◌}
+use Rattle.std.specs.Option.{option_map_or}
+use Rattle.client_hub.specs.declared.desk.Desk.{Desk}
+use Rattle.client_hub.specs.declared.desk.Step.{Step}
+use Rattle.client_hub.specs.declared.desk.Step.TheVariants as step
+use Rattle.client_hub.specs.declared.desk.Task.TheVariants as task
+use Rattle.client_hub.specs.declared.parked.Lot.{Lot}
+use Rattle.client_hub.specs.declared.parked.TheConstants.{LISTENER}
+use Rattle.client_hub.specs.Parked.{parked_at}
+
+-- the first of what is ready, which is the listener, or a connection unless that was closed; where nothing is ready, a
+-- wait in the epoll, unless another worker waits there
+abbrev pub first_step : Lot → Bool → List ℕ → Step
+first_step lot watched [] = if watched then step.Sleep else step.Watch
+first_step lot watched (token ∷ tokens) =
+    if token == LISTENER then step.Do task.Accept
+    else option_map_or (λ parked. step.Do (task.Read parked)) (parked_at lot token) step.Again
+
+abbrev pub next_step : Desk → Step
+next_step desk = first_step desk.lot desk.post.watched desk.lot.ready.items

@@ -1,6 +1,6 @@
 //! What the workers share, and what follows of it for one of them.
 
-ghost use Rattle.std.specs.Prelude.{◌≡◌, ◌≢◌, ◌≤◌, ◌<◌, true, false};
+ghost use Rattle.std.specs.Prelude.{◌≡◌, ◌≢◌, ◌⊎◌, ◌≤◌, ◌<◌, true, false, length};
 ghost use Rattle.indexmap.specs.IndexMap.{index_map_len};
 ghost use Rattle.client_hub.specs.Parked.{is_favoured};
 ghost use Rattle.client_hub.specs.Watch.{is_attended};
@@ -73,7 +73,12 @@ impl Desk {
     }
 
     // whether something is ready, and nobody but those that serve will take it
-    pub(crate) fn is_short(&self) -> bool {
+    pub(crate) fn is_short(&self) -> bool
+        ensures ready { result ≡ true → 0 < length self.now.lot.ready.items }
+        ensures alone { result ≡ true → is_attended self.now.post.watched self.now.post.called self.now.post.summoned ≡ false }
+        ensures enough { result ≡ false → (length self.now.lot.ready.items ≡ 0)
+            ⊎ (is_attended self.now.post.watched self.now.post.called self.now.post.summoned ≡ true) }
+    {
         self.lot.is_ready() && !self.post.is_attended()
     }
 

@@ -1,7 +1,8 @@
 //! The one place where the workers find their connections.
 
-ghost use Rattle.std.specs.Prelude.{◌≡◌};
-ghost use Rattle.client_hub.specs.Hub.{refusal_of};
+ghost use Rattle.std.specs.Prelude.{◌≡◌, ◌==◌, if◌then◌else◌};
+ghost use Rattle.std.specs.Net.Socket.{socket_ip};
+ghost use Rattle.client_hub.specs.Hub.{refusal_of, IsClientIp};
 
 use crate::ahead::{Front, front_of};
 use crate::desk::Desk;
@@ -296,7 +297,9 @@ fn refusal_of(error: i32) -> Refusal
 }
 
 // this moment, or now where it is 0
-fn or_now(moment: u64, now: u64) -> u64 {
+fn or_now(moment: u64, now: u64) -> u64
+    ensures { result ≡ (if moment == 0 then now else moment) }
+{
     if moment == 0 { now } else { moment }
 }
 
@@ -321,12 +324,11 @@ fn with_options(listener: TcpListener) -> io::Result<TcpListener> {
 }
 
 // the address of a client; an IPv4 address within an IPv6 one is that IPv4 address (RFC 4291, section 2.5.5.2)
-fn ip_of(addr: SocketAddr) -> Ip {
-    match addr.ip() {
+fn ip_of(addr: SocketAddr) -> Ip
+    ensures { IsClientIp (socket_ip addr) result }
+{
+    match addr.ip().to_canonical() {
         IpAddr::V4(ip) => Ip::V4(ip.to_bits()),
-        IpAddr::V6(ip) => match ip.to_ipv4_mapped() {
-            Some(four) => Ip::V4(four.to_bits()),
-            None => Ip::V6(ip.to_bits()),
-        },
+        IpAddr::V6(ip) => Ip::V6(ip.to_bits()),
     }
 }

@@ -1,6 +1,6 @@
 //! Which worker waits in the epoll, and which sleep.
 
-ghost use Rattle.std.specs.Prelude.{◌≡◌, ◌≢◌, ◌⊎◌, ◌<◌, ◌≤◌, ◌-◌, ◌+◌, true, false, if◌then◌else◌};
+ghost use Rattle.std.specs.Prelude.{◌≡◌, ◌≢◌, ◌⊎◌, ◌<◌, ◌≤◌, ◌-◌, ◌+◌, ◌%◌, ◌^◌, min, true, false, if◌then◌else◌};
 ghost use Rattle.client_hub.specs.declared.post.TheConstants.{PATIENCE, PAUSE};
 ghost use Rattle.client_hub.specs.Watch.{is_attended, is_staffed};
 
@@ -50,7 +50,11 @@ pub(crate) enum Call {
 
 impl Post {
     // nobody waits or sleeps
-    pub(crate) fn new() -> Post {
+    pub(crate) fn new() -> Post
+        ensures watched { result.watched ≡ false }
+        ensures asleep { (result.asleep ≡ 0) × (result.has_deputy ≡ false) }
+        ensures called { (result.called ≡ false) × (result.summoned ≡ false) }
+    {
         Post {
             watched: false,
             watches: 0,
@@ -82,6 +86,7 @@ impl Post {
     pub(crate) fn begin_watch(&mut self)
         requires alone { self.old.watched ≡ false }
         ensures watched { self.new.watched ≡ true }
+        ensures counted { self.new.watches ≡ (self.old.watches + 1) % 2 ^ 64 }
     {
         self.watched = true;
         self.watches = self.watches.wrapping_add(1);
@@ -132,7 +137,8 @@ impl Post {
 
     // a worker falls asleep; whether as the deputy
     pub(crate) fn fall_asleep(&mut self) -> bool
-        ensures deputy { result ≡ true → self.old.has_deputy ≡ false }
+        ensures deputy { result ≡ true → (self.old.has_deputy ≡ false) × (self.new.asleep ≡ self.old.asleep) }
+        ensures asleep { result ≡ false → (self.old.has_deputy ≡ true) × (self.new.asleep ≡ min (self.old.asleep + 1) (2 ^ 64 - 1)) }
         ensures stands { self.new.has_deputy ≡ true }
     {
         if self.has_deputy {

@@ -29,7 +29,7 @@ pub(crate) struct Post {
     appointed: bool,
     // the microsecond since which what is ready waits at most
     waiting: u64,
-    // the microsecond at which the epoll had told all that it had
+    // the microsecond since which what the epoll has not yet told waits at most
     swept: u64,
     // while workers sleep, one more is the deputy, or one of them was called to be it
     ghost staffed: { is_staffed asleep has_deputy appointed ≡ true },
@@ -93,13 +93,13 @@ impl Post {
     }
 
     // It does not wait there any more. It began to at the first of these microseconds, and now is the second one: where they
-    // are apart, nothing was ready at the first one. Else what came waits since the epoll last had told all, which it has
-    // now unless it told as much as it may at once.
+    // are apart, nothing was ready at the first one. Else what came waits since the epoll last had told all that was ready,
+    // and so does what it has more than it told now.
     pub(crate) fn end_watch(&mut self, began: u64, now: u64, has_more: bool)
         ensures watched { self.new.watched ≡ false }
         ensures paused { PAUSE ≤ now - began → self.new.waiting ≡ began }
         ensures busy { now - began < PAUSE → self.new.waiting ≡ self.old.swept }
-        ensures swept { self.new.swept ≡ (if has_more then self.old.swept else now) }
+        ensures swept { self.new.swept ≡ (if has_more then self.new.waiting else now) }
     {
         self.watched = false;
         self.waiting = if now.saturating_sub(began) >= PAUSE {
@@ -107,9 +107,7 @@ impl Post {
         } else {
             self.swept
         };
-        if !has_more {
-            self.swept = now;
-        }
+        self.swept = if has_more { self.waiting } else { now };
     }
 
     // whether what is ready waits for long; then that is counted anew from this microsecond on

@@ -1,6 +1,6 @@
 //! What the workers share, and what follows of it for one of them.
 
-ghost use Rattle.std.specs.Prelude.{◌≡◌, ◌≢◌, ◌⊎◌, ◌≤◌, ◌<◌, true, false, length};
+ghost use Rattle.std.specs.Prelude.{◌≡◌, ◌≢◌, ◌⊎◌, ◌≤◌, ◌<◌, true, false, drop, length};
 ghost use Rattle.indexmap.specs.IndexMap.{index_map_len};
 ghost use Rattle.client_hub.specs.Parked.{is_favoured};
 ghost use Rattle.client_hub.specs.Watch.{is_attended};
@@ -54,6 +54,7 @@ impl Desk {
     // in the epoll.
     pub(crate) fn next_step(&mut self) -> Step
         ensures step { result ≡ next_step self.old }
+        ensures ready { self.new.lot.ready.items ≡ drop 1 self.old.lot.ready.items }
         ensures post { self.new.post ≡ self.old.post }
     {
         let Some(token) = self.lot.next_ready() else {
@@ -83,7 +84,7 @@ impl Desk {
     }
 
     // How it stands for a worker that would keep the connection with this token, and who is to be woken so that another one
-    // waits for the others.
+    // waits for the others: whoever is noted as called.
     pub(crate) fn stance(&mut self, token: u64) -> (Stance, Call)
         ensures alone { index_map_len self.old.lot.slots ≤ 1 → result.0 ≢ Stance.Crowded }
         ensures favoured { 1 < index_map_len self.old.lot.slots → result.0 ≢ Stance.Crowded →
@@ -93,6 +94,8 @@ impl Desk {
         ensures attended { result.0 ≡ Stance.Attended →
             is_attended self.new.post.watched self.new.post.called self.new.post.summoned ≡ true }
         ensures unattended { result.0 ≡ Stance.Unattended → (self.old.post.asleep ≡ 0) × (self.old.post.has_deputy ≡ false) }
+        ensures called { result.1 ≢ Call.Sleeper → self.new.post.called ≡ self.old.post.called }
+        ensures summoned { result.1 ≢ Call.Deputy → self.new.post.summoned ≡ self.old.post.summoned }
         ensures lot { self.new.lot ≡ self.old.lot }
     {
         let is_only = self.lot.len() <= 1;

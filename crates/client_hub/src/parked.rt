@@ -1,6 +1,6 @@
 //! Connections that are open, and which of them have something for a worker.
 
-ghost use Rattle.std.specs.Prelude.{◌≡◌, ◌<◌, ◌+◌, ◌∷◌, ◌++◌, [], true, Some, None, nat_eq, not, filter, length, IfSome, IfNone, IsSome, IsTrue, ◌↔◌};
+ghost use Rattle.std.specs.Prelude.{◌≡◌, ◌<◌, ◌+◌, ◌∷◌, ◌++◌, [], true, Some, None, nat_eq, not, drop, filter, length, IfSome, IfNone, IsSome, IsTrue, ◌↔◌};
 ghost use Rattle.std.specs.VecDeque.{deque_len, deque_capacity};
 ghost use Rattle.std.specs.Option.{option_to_list};
 ghost use Rattle.indexmap.specs.IndexMap.{index_map_len, IsEmpty, IsUnchanged, Updates};
@@ -221,6 +221,7 @@ impl Lot {
     pub(crate) fn next_ready(&mut self) -> Option<u64>
         ensures first { self.old.ready.items ≡ option_to_list result ++ self.new.ready.items }
         ensures none { IfNone result (self.old.ready.items ≡ []) }
+        ensures rest { self.new.ready.items ≡ drop 1 self.old.ready.items }
         ensures slots { self.new.slots ≡ self.old.slots }
         ensures next { self.new.next ≡ self.old.next }
     {

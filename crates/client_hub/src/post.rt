@@ -87,6 +87,8 @@ impl Post {
         requires alone { self.old.watched ≡ false }
         ensures watched { self.new.watched ≡ true }
         ensures counted { self.new.watches ≡ (self.old.watches + 1) % 2 ^ 64 }
+        ensures staff { (self.new.asleep ≡ self.old.asleep) × (self.new.has_deputy ≡ self.old.has_deputy) × (self.new.appointed ≡ self.old.appointed) }
+        ensures calls { (self.new.called ≡ self.old.called) × (self.new.summoned ≡ self.old.summoned) }
     {
         self.watched = true;
         self.watches = self.watches.wrapping_add(1);
@@ -100,6 +102,9 @@ impl Post {
         ensures paused { PAUSE ≤ now - began → self.new.waiting ≡ began }
         ensures busy { now - began < PAUSE → self.new.waiting ≡ self.old.swept }
         ensures swept { self.new.swept ≡ (if has_more then self.new.waiting else now) }
+        ensures watches { self.new.watches ≡ self.old.watches }
+        ensures staff { (self.new.asleep ≡ self.old.asleep) × (self.new.has_deputy ≡ self.old.has_deputy) × (self.new.appointed ≡ self.old.appointed) }
+        ensures calls { (self.new.called ≡ self.old.called) × (self.new.summoned ≡ self.old.summoned) }
     {
         self.watched = false;
         self.waiting = if now.saturating_sub(began) >= PAUSE {
@@ -115,6 +120,9 @@ impl Post {
         ensures patient { result ≡ true → PATIENCE ≤ now - self.old.waiting }
         ensures anew { result ≡ true → (self.new.waiting ≡ now) × (self.new.swept ≡ now) }
         ensures still { result ≡ false → (now - self.old.waiting < PATIENCE) × (self.new ≡ self.old) }
+        ensures watched { (self.new.watched ≡ self.old.watched) × (self.new.watches ≡ self.old.watches) }
+        ensures staff { (self.new.asleep ≡ self.old.asleep) × (self.new.has_deputy ≡ self.old.has_deputy) × (self.new.appointed ≡ self.old.appointed) }
+        ensures calls { (self.new.called ≡ self.old.called) × (self.new.summoned ≡ self.old.summoned) }
     {
         if now.saturating_sub(self.waiting) < PATIENCE {
             return false;
@@ -138,6 +146,8 @@ impl Post {
         ensures deputy { result ≡ true → (self.old.has_deputy ≡ false) × (self.new.asleep ≡ self.old.asleep) }
         ensures asleep { result ≡ false → (self.old.has_deputy ≡ true) × (self.new.asleep ≡ min (self.old.asleep + 1) (2 ^ 64 - 1)) }
         ensures stands { self.new.has_deputy ≡ true }
+        ensures watched { (self.new.watched ≡ self.old.watched) × (self.new.watches ≡ self.old.watches) }
+        ensures calls { (self.new.called ≡ self.old.called) × (self.new.summoned ≡ self.old.summoned) }
     {
         if self.has_deputy {
             self.asleep = self.asleep.saturating_add(1);
@@ -153,7 +163,8 @@ impl Post {
         ensures nobody { self.new.appointed ≡ false → result ≡ Call.Nobody }
         ensures asleep { self.new.asleep ≡ self.old.asleep - 1 }
         ensures deputy { self.new.has_deputy ≡ self.old.has_deputy }
-        ensures answered { self.new.called ≡ false }
+        ensures answered { (self.new.called ≡ false) × (self.new.summoned ≡ self.old.summoned) }
+        ensures watched { (self.new.watched ≡ self.old.watched) × (self.new.watches ≡ self.old.watches) }
     {
         self.asleep = self.asleep.saturating_sub(1);
         self.called = false;
@@ -171,7 +182,8 @@ impl Post {
         ensures nobody { result ≢ Call.Sleeper → (self.new.asleep ≡ 0) ⊎ (self.old.appointed ≡ true) }
         ensures asleep { self.new.asleep ≡ self.old.asleep }
         ensures deputy { self.new.has_deputy ≡ false }
-        ensures answered { self.new.summoned ≡ false }
+        ensures answered { (self.new.summoned ≡ false) × (self.new.called ≡ self.old.called) }
+        ensures watched { (self.new.watched ≡ self.old.watched) × (self.new.watches ≡ self.old.watches) }
     {
         let was = self.appointed;
         self.appointed = self.asleep > 0;
@@ -191,13 +203,18 @@ impl Post {
         self.watched || self.called || self.summoned
     }
 
-    // Has a worker wait in the epoll: who is to be woken for that, a sleeper, and the deputy where no other one sleeps.
+    // Has a worker wait in the epoll: who is to be woken for that, a sleeper, and the deputy where no other one sleeps. Who is
+    // noted as called is whom it says.
     pub(crate) fn attend(&mut self) -> Call
         ensures attended { result ≢ Call.Nobody → is_attended self.new.watched self.new.called self.new.summoned ≡ true }
         ensures enough { result ≡ Call.Enough → self.new ≡ self.old }
         ensures sleeper { result ≡ Call.Sleeper → (0 < self.old.asleep) × (self.new.called ≡ true) }
         ensures deputy { result ≡ Call.Deputy → (self.old.has_deputy ≡ true) × (self.new.summoned ≡ true) }
         ensures nobody { result ≡ Call.Nobody → (self.old.asleep ≡ 0) × (self.old.has_deputy ≡ false) × (self.new ≡ self.old) }
+        ensures called { result ≢ Call.Sleeper → self.new.called ≡ self.old.called }
+        ensures summoned { result ≢ Call.Deputy → self.new.summoned ≡ self.old.summoned }
+        ensures watched { (self.new.watched ≡ self.old.watched) × (self.new.watches ≡ self.old.watches) }
+        ensures staff { (self.new.asleep ≡ self.old.asleep) × (self.new.has_deputy ≡ self.old.has_deputy) × (self.new.appointed ≡ self.old.appointed) }
     {
         if self.is_attended() {
             return Call::Enough;

@@ -2,4 +2,4 @@ pub mod Ahead
 pub mod Desk
 pub mod Hub
 pub mod Parked
-pub mod Watch
+pub mod Post

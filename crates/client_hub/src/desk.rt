@@ -3,7 +3,7 @@
 ghost use Rattle.std.specs.Prelude.{◌≡◌, ◌≢◌, ◌⊎◌, ◌≤◌, ◌<◌, true, false, drop, length};
 ghost use Rattle.indexmap.specs.IndexMap.{index_map_len};
 ghost use Rattle.client_hub.specs.Parked.{is_favoured};
-ghost use Rattle.client_hub.specs.Watch.{is_attended};
+ghost use Rattle.client_hub.specs.Post.{is_attended};
 ghost use Rattle.client_hub.specs.Desk.{next_step};
 
 use crate::parked::{LISTENER, Lot, Parked};

@@ -2,7 +2,7 @@
 
 ghost use Rattle.std.specs.Prelude.{◌≡◌, ◌≢◌, ◌⊎◌, ◌<◌, ◌≤◌, ◌-◌, ◌+◌, ◌%◌, ◌^◌, min, true, false, if◌then◌else◌};
 ghost use Rattle.client_hub.specs.declared.post.TheConstants.{PATIENCE, PAUSE};
-ghost use Rattle.client_hub.specs.Watch.{is_attended, is_staffed};
+ghost use Rattle.client_hub.specs.Post.{is_attended, is_staffed};
 
 /// How long what is ready may wait for a worker before one more is called, in microseconds.
 const PATIENCE: u64 = 1_000;

@@ -2,6 +2,7 @@
 #![tactic(auto)]
 
 mod law;
+pub mod numbers;
 mod summary;
 
 pub use law::a_summary_has_each_word_once;

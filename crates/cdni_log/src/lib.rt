@@ -5,6 +5,7 @@ mod date;
 mod file;
 pub mod laws;
 mod line;
+pub mod numbers;
 mod record;
 mod row;
 

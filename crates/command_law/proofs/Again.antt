@@ -17,7 +17,7 @@ use Rattle.trigger_command.specs.declared.command.Act.{Act}
 use Rattle.trigger_command.specs.declared.command.Act.TheVariants as act
 use Rattle.trigger_command.specs.declared.command.Command.{Command}
 use Rattle.command_law.specs.Grammar.{IsAct, IsSpec}
-use Rattle.command_law.specs.Status.{command_data, command_text}
+use Rattle.trigger_status.specs.Command.{command_data, command_text}
 use Rattle.command_law.proofs.Commands.{text_meets}
 use Rattle.command_law.proofs.Kept.{IsInUtf8, property_utf8, command_read_back}
 use Rattle.command_law.proofs.Shown.{shown_is_command}

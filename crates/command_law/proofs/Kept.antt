@@ -24,7 +24,7 @@ use Rattle.trigger_command.specs.declared.spec.TriggerKind.TheVariants.{Preposit
 use Rattle.trigger_status.specs.Items.{each_as, url_data, pattern_data, with_list}
 use Rattle.trigger_status.specs.Job.{kind_name, trigger_data}
 use Rattle.command_law.specs.Grammar.{Has, HasList, IsText, IsUrl, IsPattern, IsSpec}
-use Rattle.command_law.specs.Status.{command_data, command_text, id_data}
+use Rattle.trigger_status.specs.Command.{command_data, command_text, id_data}
 use Rattle.command_law.proofs.RoundTrip.{IsKept, AreKept, AreInOrder, IsBehind, with_last, read_back}
 use Rattle.command_law.proofs.Shown.{kind_members, from_metadata_urls, from_metadata_patterns, from_content_urls, from_content_patterns, from_ccids, trigger_is}
 

@@ -14,7 +14,7 @@ use Rattle.trigger_status.specs.Items.{each_as, url_data, pattern_data, with_lis
 use Rattle.trigger_status.specs.Job.{kind_name, job_data, last_members, error_items, trigger_data}
 use Rattle.trigger_status.specs.declared.job.Job.{Job}
 use Rattle.command_law.specs.Grammar.{HasList, IsText, IsId, IsUrl, IsPattern, IsSpec, IsCommandValue}
-use Rattle.command_law.specs.Status.{command_data, id_data}
+use Rattle.trigger_status.specs.Command.{command_data, id_data}
 
 -- ---- looking behind a list that may be left out
 

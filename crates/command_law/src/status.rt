@@ -3,7 +3,7 @@
 ghost use Rattle.std.specs.Prelude.{◌≡◌, ℕ, List, All, Contains, Ok, Some, codes};
 ghost use Rattle.cdni_base.specs.Provider.{IsProvider};
 ghost use Rattle.cdni_base.specs.declared.provider.ProviderId.{ProviderId};
-ghost use Rattle.command_law.specs.Status.{command_text};
+ghost use Rattle.trigger_status.specs.Command.{command_text};
 ghost use Rattle.serde_json.specs.Find.{get};
 ghost use Rattle.trigger_command.specs.Reading.{command_of};
 ghost use Rattle.trigger_command.specs.Spec.{SpecParts};

@@ -156,7 +156,7 @@ content_cases w begun kept (Some got) P is each =
     let free = and_parts _ (not (is_hit w.delivering begun)) parts.0 in
     each got refl (not-true (is_hit w.delivering begun) free.1) (sym parts.1)
 
-full_cases : (ends : Outcome) (got : GotParts) → full_content ends ≡ Some got → (ends ≡ outcome.Got got) × (got.status ≡ 200)
+pub full_cases : (ends : Outcome) (got : GotParts) → full_content ends ≡ Some got → (ends ≡ outcome.Got got) × (got.status ≡ 200)
 full_cases (outcome.Got had) got is =
     let p = cond_some (had.status == 200) had got is in (ap outcome.Got p.1, ap (λ (g : GotParts). g.status) (sym p.1) ∙ eqb-true had.status 200 p.0)
 full_cases (outcome.Refused status) got is = absurd (none-some got is)

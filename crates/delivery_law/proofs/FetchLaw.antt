@@ -32,6 +32,7 @@ use Rattle.delivery_law.specs.Fetches.{BeginsItsFetch, FetchBegan, FetchBrought,
 use Rattle.delivery_law.proofs.Entries.{GainedBy, begun_by, each_fetch, each_kept, fetches_are, new_starts, starts_grow}
 use Rattle.delivery_law.proofs.Lists.{found_any, found_is, no_any, none_found}
 use Rattle.delivery_law.proofs.Places.{from_right, length_push, longer, within}
+use Rattle.delivery_law.proofs.StartLaw.{untaken}
 
 -- an open fetch has begun
 abbrev HasBegun : Made → History → Begun Fetching → Type 0
@@ -50,7 +51,7 @@ pub record FetchLaw (made : Made) (h : History) : Type 0 where
 abbrev Unhit : ℕ → Fetching → Start → Type 0
 Unhit at what start = at < start.at → Hits start.selection what.key what.ccid → ⊥
 
-misses : (selection : Selection) (key : KeyParts) (ccid : Option (List ℕ)) → hits selection key ccid ≡ false → Hits selection key ccid → ⊥
+pub misses : (selection : Selection) (key : KeyParts) (ccid : Option (List ℕ)) → hits selection key ccid ≡ false → Hits selection key ccid → ⊥
 misses selection key ccid fails is = both_ways _ fails ((hits_decides selection key ccid).1 is)
 
 module _ (made : Made) (h : History) (e : Entry) where
@@ -97,7 +98,7 @@ module _ (made : Made) (h : History) (e : Entry) where
   }
 
   -- no start since the position hits it
-  not_since : (at : ℕ) (what : Fetching) (starts : List Start) → is_hit_since starts at what.key what.ccid ≡ false → All (Unhit at what) starts
+  pub not_since : (at : ℕ) (what : Fetching) (starts : List Start) → is_hit_since starts at what.key what.ccid ≡ false → All (Unhit at what) starts
   not_since at what starts is = All-weaker (λ (s : Start). (nat_lt at s.at && hits s.selection what.key what.ccid) ≡ false) (Unhit at what) (λ s no since. elim (and_cases (nat_lt at s.at) (hits s.selection what.key what.ccid) no) [
     | inl early ↦ absurd (both_ways _ early (lt-ltb at s.at since))
     | inr free ↦ misses s.selection what.key what.ccid free
@@ -174,6 +175,7 @@ hit_of made h target kept is =
       what = record { key = kept.key; ccid = kept.ccid };
       fetched = found.0;
       key = sym ((key_decides (key_at (index_after made h) target) kept.key).0 found.1);
+      untaken = untaken made h found.0.began (λ selection. Hits selection kept.key kept.ccid) found.0.unhit;
     }
 
 pub hit_law : (made : Made) (h : History) (pass : ℕ) (asked : Asked) (place : Place) (moment delivery fetch : ℕ) (kind body : List ℕ)

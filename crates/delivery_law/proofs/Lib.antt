@@ -1,8 +1,10 @@
 pub mod Lists
 pub mod Places
 pub mod Entries
+pub mod StartLaw
 pub mod FetchLaw
 pub mod MetadataLaw
+pub mod DenialLaw
+pub mod RefreshLaw
 pub mod Deliveries
 pub mod LogLaw
-pub mod StartLaw

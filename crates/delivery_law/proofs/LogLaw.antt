@@ -72,10 +72,10 @@ apart_begins opened rows n one is a = record {
   shut = λ k d below. let low = a.rows_below k d below in All-push (HasNot (get_or rows k d).delivery) opened one (a.shut k d below) (λ same. omega (arith, same, is, low));
 }
 
-first_pairs : {A : Type 0} (R : A → A → Type 0) (x : A) (xs : List A) → AllPairs R (x ∷ xs) → All (R x) xs
+pub first_pairs : {A : Type 0} (R : A → A → Type 0) (x : A) (xs : List A) → AllPairs R (x ∷ xs) → All (R x) xs
 first_pairs R x xs pairs = λ k d below. pairs 0 (suc k) d (omega arith) (omega (arith, below))
 
-rest_pairs : {A : Type 0} (R : A → A → Type 0) (x : A) (xs : List A) → AllPairs R (x ∷ xs) → AllPairs R xs
+pub rest_pairs : {A : Type 0} (R : A → A → Type 0) (x : A) (xs : List A) → AllPairs R (x ∷ xs) → AllPairs R xs
 rest_pairs R x xs pairs = λ i j d order below. pairs (suc i) (suc j) d (omega (arith, order)) (omega (arith, below))
 
 -- none but the one that was closed has its number
@@ -109,7 +109,7 @@ apart_ends d p opened rows n one row is of a =
 
 -- ---- rows by their places
 
-got_push : {A : Type 0} (xs : List A) (y : A) (k : ℕ) (x : A) → slice_get (xs ++ y ∷ []) k ≡ Some x → (slice_get xs k ≡ Some x) ⊎ ((k ≡ length xs) × (y ≡ x))
+pub got_push : {A : Type 0} (xs : List A) (y : A) (k : ℕ) (x : A) → slice_get (xs ++ y ∷ []) k ≡ Some x → (slice_get xs k ≡ Some x) ⊎ ((k ≡ length xs) × (y ≡ x))
 got_push [] y zero x is = inr (refl, same_Some y x is)
 got_push [] y (suc k) x is = absurd (none-some x is)
 got_push (z ∷ zs) y zero x is = inl is

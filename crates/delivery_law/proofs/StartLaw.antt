@@ -1,10 +1,11 @@
 -- The starts are the steps at which an invalidate or a purge became active.
-use Rattle.std.proofs.Common.{◌≡◌, ℕ, ◌+◌, Bool, true, false, [], ◌∷◌, ◌++◌, length, All, append_assoc, refl, sym, ap, ◌∙◌, subst, inl, inr, None, Some, Option}
+use Rattle.std.proofs.Common.{◌≡◌, ℕ, ◌+◌, ◌<◌, Bool, true, false, [], ◌∷◌, ◌++◌, length, All, append_assoc, refl, sym, ap, ◌∙◌, subst, inl, inr, None, Some, Option}
 use Rattle.std.specs.List.{Contains}
 use Rattle.std.specs.Option.{option_and_then, option_to_list}
 use Rattle.std.proofs.lemmas.Bool.{both_ways}
-use Rattle.std.proofs.lemmas.List.Elements.{All-append, All-nil, All-weaker, Contains-append_left, Contains-append_right, Contains-push}
+use Rattle.std.proofs.lemmas.List.Elements.{All-append, All-contains, All-nil, All-weaker, Contains-append_left, Contains-append_right, Contains-push}
 use Rattle.std.proofs.lemmas.Option.{none-some, same_Some}
+use Rattle.trigger_command.specs.declared.selection.Selection.{Selection}
 use Rattle.trigger_command.specs.declared.spec.TriggerKind.{TriggerKind}
 use Rattle.trigger_command.specs.declared.spec.TriggerKind.TheVariants.{Preposition, Invalidate, Purge}
 use Rattle.history.proofs.Numbers.{entries_are}
@@ -30,7 +31,7 @@ abbrev prepares : TriggerKind → Bool
 prepares Preposition = true
 prepares kind = false
 
-no_preposition : TakesBack Preposition → ⊥
+pub no_preposition : TakesBack Preposition → ⊥
 no_preposition (inl is) = both_ways true (ap prepares is) refl
 no_preposition (inr is) = both_ways true (ap prepares is) refl
 
@@ -68,7 +69,7 @@ all_new w (pass, Advance id moment) r = news w pass id moment r
 all_new w e r = All-nil _
 
 -- a start is what starts where a trigger became active
-abbrev HasStarted : Made → History → Start → Type 0
+abbrev pub HasStarted : Made → History → Start → Type 0
 HasStarted made h start = (trigger : Trigger) × BecameActive made h start.at trigger × StartsWith start start.at trigger
 
 record StartLaw (made : Made) (h : History) : Type 0 where
@@ -144,3 +145,20 @@ each_active made h at trigger b =
       subst (λ x. Contains (world_of made x).delivering.starts so.0) (append_assoc before (e ∷ []) b.answered.since ∙ sym b.answered.whole) (stays_there made so.0 (before ++ e ∷ []) b.answered.since there),
       record { position_is = place; number_is = so.2.number_is; kind_is = so.2.kind_is; selection_is = so.2.selection_is },
     )
+
+-- ---- what no start hits nothing took back
+
+-- what no start hits, no trigger that became active hits
+pub untaken : (made : Made) (h : History) (since : ℕ) (P : Selection → Type 0) → All (λ (s : Start). since < s.at → P s.selection → ⊥) (world_of made h).delivering.starts
+    → (at : ℕ) (trigger : Trigger) → BecameActive made h at trigger → since < at → P trigger.job.spec.selection → ⊥
+untaken made h since P unhit at trigger active later hits =
+    let so = each_active made h at trigger active in
+    All-contains (λ (s : Start). since < s.at → P s.selection → ⊥) (world_of made h).delivering.starts so.0 unhit so.1
+    (subst (λ n. since < n) (sym so.2.position_is) later) (subst P (sym so.2.selection_is) hits)
+
+-- and the other way round
+pub unhit_by : (made : Made) (h : History) (since : ℕ) (P : Selection → Type 0)
+    → ((at : ℕ) (trigger : Trigger) → BecameActive made h at trigger → since < at → P trigger.job.spec.selection → ⊥)
+    → All (λ (s : Start). since < s.at → P s.selection → ⊥) (world_of made h).delivering.starts
+unhit_by made h since P none = All-weaker (HasStarted made h) (λ (s : Start). since < s.at → P s.selection → ⊥)
+    (λ s started later hits. none s.at started.0 started.1 later (subst P started.2.selection_is hits)) (world_of made h).delivering.starts (each_start made h)

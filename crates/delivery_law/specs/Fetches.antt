@@ -17,6 +17,7 @@ use Rattle.history.specs.World.{Made}
 use Rattle.history.specs.declared.begun.Fetching.{Fetching}
 use Rattle.history.specs.declared.reply.Reply.{Reply}
 use Rattle.history.specs.declared.reply.Reply.TheVariants as reply
+use Rattle.delivery_law.specs.Starts.{NoneTookBack}
 
 -- the metadata that is installed after the history
 abbrev pub index_after : Made → History → Option Index
@@ -65,11 +66,13 @@ pub record Fetched (made : Made) (h : History) (fetch : ℕ) (what : Fetching) (
   pub brought : FetchBrought made h ended pass fetch kind body
   pub unhit : NoStartHits made h began what
 
--- the content is what one fetch brought, and the key of that fetch is the key of the target
+-- the content is what one fetch brought, the key of that fetch is the key of the target, and no invalidate or purge that
+-- became active since it began hits it
 pub record IsOfOneFetch (made : Made) (h : History) (target : Target) (fetch : ℕ) (kind body : List ℕ) : Type 0 where
   pub what : Fetching
   pub fetched : Fetched made h fetch what kind body
   pub key : what.key ≡ key_at (index_after made h) target
+  pub untaken : NoneTookBack made h fetched.began what
 
 -- the entry begins this fetch at its own position, for the key and the collection of the target, from the endpoints of
 -- the effective sources; it is then the last of those that are open; and nothing is kept under the key

@@ -1,4 +1,6 @@
+pub mod Starts
 pub mod Fetches
 pub mod Metadata
+pub mod Denials
+pub mod Refreshes
 pub mod LogRows
-pub mod Starts

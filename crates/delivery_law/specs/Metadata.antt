@@ -12,6 +12,7 @@ use Rattle.history.specs.Laws.{IsOpen}
 use Rattle.history.specs.World.{Installed, Made}
 use Rattle.history.specs.declared.reply.Reply.{Reply}
 use Rattle.history.specs.declared.reply.Reply.TheVariants as reply
+use Rattle.delivery_law.specs.Starts.{NoneTookBackMetadata}
 
 -- the rules that are read from the installed metadata: those from no host on
 abbrev pub is_read_from_metadata : Rule → Bool
@@ -64,9 +65,11 @@ abbrev pub NoStartHitsMetadata : Made → History → ℕ → TreeData → Type 
 NoStartHitsMetadata made h at tree = All (λ start. at < start.at
     → All (λ resource. HitsMetadata start.selection resource → ⊥) tree.resources) (world_of made h).delivering.starts
 
--- metadata is installed, and no start since its refresh began hits one of its documents
+-- metadata is installed, and no start since its refresh began hits one of its documents: no invalidate or purge that became
+-- active since then does
 pub record HasUnhitMetadata (made : Made) (h : History) : Type 0 where
   pub installed : Installed
   pub is : (world_of made h).delivering.tree ≡ Some installed
   pub was : WasInstalled made h installed
   pub unhit : NoStartHitsMetadata made h installed.at installed.tree
+  pub untaken : NoneTookBackMetadata made h installed.at installed.tree.resources

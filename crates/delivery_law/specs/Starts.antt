@@ -1,11 +1,15 @@
 -- Starts by their positions: where an invalidate or a purge became active.
-use Rattle.std.specs.Prelude.{◌≡◌, ◌⊎◌, ℕ, Some}
+use Rattle.std.specs.Prelude.{◌≡◌, ◌⊎◌, ℕ, ◌<◌, List, Some}
+use Rattle.std.specs.List.{Any}
+use Rattle.cdni_base.specs.Key.{KeyParts}
+use Rattle.trigger_command.specs.Selection.{Hits, HitsMetadata}
 use Rattle.trigger_command.specs.declared.spec.TriggerKind.{TriggerKind}
 use Rattle.trigger_command.specs.declared.spec.TriggerKind.TheVariants.{Invalidate, Purge}
 use Rattle.history.specs.Event.{History, Advance}
 use Rattle.history.specs.History.{AnsweredAt, world_of}
 use Rattle.history.specs.Steps.{trigger_of}
 use Rattle.history.specs.World.{Made, Start, Trigger}
+use Rattle.history.specs.declared.begun.Fetching.{Fetching}
 use Rattle.history.specs.declared.reply.Reply.TheVariants as reply
 
 -- an invalidate or a purge
@@ -27,3 +31,13 @@ pub record BecameActive (made : Made) (h : History) (at : ℕ) (trigger : Trigge
   pub answered : AnsweredAt made h at (pass, Advance id moment) reply.Started
   pub this : trigger_of id (world_of made answered.before).controlling.triggers ≡ Some trigger
   pub takes_back : TakesBack trigger.job.spec.kind
+
+-- no invalidate or purge that became active after this position hits what this fetch is of
+abbrev pub NoneTookBack : Made → History → ℕ → Fetching → Type 0
+NoneTookBack made h since what = (at : ℕ) (trigger : Trigger) → BecameActive made h at trigger → since < at
+    → Hits trigger.job.spec.selection what.key what.ccid → ⊥
+
+-- none hits one of these documents
+abbrev pub NoneTookBackMetadata : Made → History → ℕ → List KeyParts → Type 0
+NoneTookBackMetadata made h since resources = (at : ℕ) (trigger : Trigger) → BecameActive made h at trigger
+    → since < at → Any (HitsMetadata trigger.job.spec.selection) resources → ⊥

@@ -2,7 +2,9 @@
 //! is the law.
 #![tactic(auto)]
 
+pub mod denials;
 pub mod fetches;
 pub mod log_rows;
 pub mod metadata;
+pub mod refreshes;
 pub mod starts;

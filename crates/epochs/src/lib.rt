@@ -5,5 +5,6 @@
 mod chains;
 mod epochs_list;
 pub mod laws;
+pub mod numbers;
 
 pub use epochs_list::{Epochs, Start};

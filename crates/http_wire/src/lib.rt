@@ -7,6 +7,7 @@ mod fields;
 mod head;
 mod inbox;
 mod limits;
+pub mod numbers;
 mod reading;
 mod response;
 

@@ -6,6 +6,7 @@ mod first_match;
 pub mod laws;
 mod list;
 mod number;
+pub mod numbers;
 mod reserved_list;
 mod shared_bytes;
 mod short_bytes;

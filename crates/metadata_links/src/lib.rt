@@ -8,6 +8,7 @@ mod gathering;
 mod href;
 mod joining;
 mod link;
+pub mod numbers;
 mod tree;
 
 pub use fault::LinkFault;

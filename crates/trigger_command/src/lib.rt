@@ -5,6 +5,7 @@
 mod command;
 mod draft;
 mod fault;
+pub mod numbers;
 mod reading;
 mod selection;
 mod spec;

@@ -1,3 +1,7 @@
 mod FinalLemmas
 mod NumberLemmas
 mod OpenLemmas
+mod Comes
+mod PreparedLaw
+mod AccountLaw
+mod CancelLaw

@@ -171,11 +171,11 @@ all_unused : (w : World) (more : History) → Unused w → Unused (fold after w 
 all_unused w [] unused = unused
 all_unused w (e ∷ more) unused = all_unused (after w e) more (still_unused w e unused)
 
-unused_in : (made : Made) (h : History) → Unused (world_of made h)
+pub unused_in : (made : Made) (h : History) → Unused (world_of made h)
 unfolding world_of
 unused_in made h = all_unused (nothing made) h (λ id low. refl)
 
-given_next : (w : World) (e : Entry) (id : ℕ) → created_trigger (reply_in w e) ≡ Some id → w.counts.created < id
+pub given_next : (w : World) (e : Entry) (id : ℕ) → created_trigger (reply_in w e) ≡ Some id → w.counts.created < id
 given_next w e id is = elim (next_created w e) [
   | inl none ↦ absurd (none-some id (sym none ∙ is))
   | inr next ↦ let same = same_Some (w.counts.created + 1) id (sym next ∙ is) in omega (arith, same)

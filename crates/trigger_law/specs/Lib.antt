@@ -1,2 +1,3 @@
 pub mod FinalTriggers
 pub mod OpenSteps
+pub mod Accounts

@@ -6,7 +6,7 @@ use std::test::Fail;
 const GOOD: &str = "serve --listen 127.0.0.1:0 --metadata http://up.example/i";
 
 // words, each behind one space, and whether they are a command
-const LINES: [(&str, bool); 36] = [
+const LINES: [(&str, bool); 38] = [
     ("", true),
     (" --workers=1", true),
     (" --workers 64", true),
@@ -21,6 +21,8 @@ const LINES: [(&str, bool); 36] = [
     (" --connections 1000001", false),
     (" --control c.example", true),
     (" --control c.example:80", false),
+    (" --control c.example:", false),
+    (" --claimed-origin c.example:", false),
     (" --control=[::1]", true),
     (" --protocol https/1.1", true),
     (" --protocol HTTPS/1.1", false),

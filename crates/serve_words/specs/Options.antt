@@ -1,5 +1,5 @@
 -- What the words of `serve` say.
-use Rattle.std.specs.Prelude.{◌≡◌, ◌^◌, ◌==◌, false, ℕ, List, [], codes, bytes_eq, None, Some, Ok, Err, ◌&&◌, nat_le, if◌then◌else◌, is_some, String}
+use Rattle.std.specs.Prelude.{◌≡◌, ◌^◌, ◌==◌, false, ℕ, List, [], codes, bytes_eq, length, None, Some, Ok, Err, ◌&&◌, nat_le, if◌then◌else◌, String}
 use Rattle.std.specs.List.{list_all, slice_split}
 use Rattle.std.specs.Option.{option_map}
 use Rattle.std.specs.Result.{result_ok}
@@ -53,9 +53,10 @@ root_of url = if begins_with (codes "http://") url then result_ok (target_of url
 abbrev pub root_in : Option (List ℕ) → Option Target
 root_in url = url >>= root_of
 
--- a host, without a port
+-- a host that ends where the text does: neither a port nor a colon follows
 unfoldable pub host_of : List ℕ → Option (List ℕ)
-host_of text = result_ok (endpoint_of text) >>= λ endpoint. if is_some endpoint.port then None else Some endpoint.host
+host_of text = result_ok (endpoint_of text) >>= λ endpoint.
+    if length endpoint.host == length text then Some endpoint.host else None
 
 -- the protocol of the listener
 unfoldable pub protocol_of : List ℕ → Option Protocol

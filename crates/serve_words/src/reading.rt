@@ -138,7 +138,7 @@ fn is_http(url: &[u8]) -> bool
     url.len() >= 7 && url[..7].eq_ignore_ascii_case(b"http://")
 }
 
-// a host without a port, or the usual one
+// a host, or the usual one
 fn read_host(alloc: Global, text: Option<&str>, usual: &str) -> Result<HostName, Unread>
     requires { length usual.now ≤ HOST_NAME_MAX }
     ensures { Gives result (said_or host_of usual.now (text_at text.entry)) }
@@ -149,19 +149,19 @@ fn read_host(alloc: Global, text: Option<&str>, usual: &str) -> Result<HostName,
     }
 }
 
-// a host without a port
+// a host that ends where its text does
 #[tactic(auto, unfolding(crate::specs::Options::host_of))]
 fn host_in(alloc: Global, text: &[u8]) -> Result<HostName, Unread>
     ensures { Gives result (host_of text.now) }
 {
     match Endpoint::read(alloc, text) {
-        Ok(Endpoint { host, port: None }) => Ok(host),
-        Ok(
-            Endpoint {
-                host: _,
-                port: Some(_),
-            },
-        ) => Err(Unread::NotOne),
+        Ok(Endpoint { host, port: _ }) => {
+            if host.bytes().len() == text.len() {
+                Ok(host)
+            } else {
+                Err(Unread::NotOne)
+            }
+        }
         Err(EndpointFault::Memory) => Err(Unread::Memory),
         Err(_) => Err(Unread::NotOne),
     }

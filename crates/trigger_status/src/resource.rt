@@ -45,7 +45,8 @@ fn add_rest(out: &mut Vec<u8>, job: &Job) -> Result<(), AllocError>
     Ok(())
 }
 
-fn add_trigger_member(out: &mut Vec<u8>, spec: &Spec) -> Result<(), AllocError>
+// adds the trigger's specification as a member behind others
+pub(crate) fn add_trigger_member(out: &mut Vec<u8>, spec: &Spec) -> Result<(), AllocError>
     ensures { OnOk result (AddsOne out.old.items true out.new.items (codes "trigger") (trigger_data spec.now)) }
 {
     add_name(out, true, b"trigger")?;

@@ -1,0 +1,11 @@
+pub mod Cascade
+pub mod Cdn
+pub mod Far
+pub mod Law
+pub mod Link
+pub mod MemoryLink
+pub mod Order
+pub mod OrderParts
+pub mod Passing
+pub mod Report
+pub mod Task

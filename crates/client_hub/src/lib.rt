@@ -5,6 +5,7 @@
 mod ahead;
 mod desk;
 mod hub;
+pub mod numbers;
 mod parked;
 mod post;
 mod watch;

@@ -1,5 +1,5 @@
 -- What passes in a request for content.
-use Rattle.std.proofs.Common.{◌≡◌, ◌≢◌, ℕ, Bool, true, false, List, [], ◌∷◌, ◌++◌, length, refl, sym, ◌∙◌, ap, subst, arith, Some, None, append-nil}
+use Rattle.std.proofs.Common.{IfNone, ◌≡◌, ◌≢◌, ℕ, Bool, true, false, List, [], ◌∷◌, ◌++◌, length, refl, sym, ◌∙◌, ap, subst, arith, Some, None, append-nil}
 use Rattle.std.specs.Io.KnownBytes.{Appends}
 use Rattle.std.specs.declared.option.Option.{Option}
 use Rattle.cdni_base.specs.declared.asked.Asked.{Asked}
@@ -243,7 +243,7 @@ pub missed : (who : Who) (a b c : History → Type 0) (g g' : Option (List ℕ))
     → DeliversFetched manner delivery fetch how d after → (v : Who) → v ≡ who → Does v (BothOpen v delivery fetch) b c g g' None None k k' d
     → Delivered who a c g g' t t' k k' before now asked place manner after
 missed who a b c g g' t t' k k' before now asked place manner delivery fetch plan made how d after planned caused admitted asks f v same does = elim (f.short) as (λ x. f.short ≡ x → Delivered who a c g g' t t' k k' before now asked place manner after) [
-  | true ↦ λ e. missed_with who a b c g g' t t' k k' before now asked place manner delivery fetch plan made how d after (Short delivery fetch plan made how f.ended f.closed f.at f.line) f tt planned (subst (λ x. AnswersFetched manner how x f.answer) e f.answered) tt refl refl (λ taken. refl) (sym e) admitted asks v same does
+  | true ↦ λ e. let short = subst (λ x. AnswersFetched manner how x f.answer) e f.answered in missed_with who a b c g g' t t' k k' before now asked place manner delivery fetch plan made how d after (Short delivery fetch plan made how f.ended f.closed f.at f.line) f tt (planned, short.0) short.1 tt refl refl (λ taken. refl) (sym e) admitted asks v same does
   | false ↦ λ e. let answered = subst (λ x. AnswersFetched manner how x f.answer) e f.answered in
       missed_with who a b c g g' t t' k k' before now asked place manner delivery fetch plan made how d after (Brought delivery fetch plan made how f.ended f.closed f.at f.line) f tt (planned, answered.0, answered.1) answered.2 caused refl refl (λ taken. refl) (sym e) admitted asks v same does
 ] refl
@@ -341,6 +341,9 @@ write_fault false false false e = cc
 
 pub some_given : (r : Option Outcome) (shown how : Outcome) → r ≡ Some shown → IfSome r (λ s. (s ≡ how) × (how ≢ outcome.Memory)) → (shown ≡ how) × (how ≢ outcome.Memory)
 some_given r shown how is given = subst (λ (x : Option Outcome). IfSome x (λ s. (s ≡ how) × (how ≢ outcome.Memory))) is given
+
+pub none_given : (r : Option Outcome) (P : Type 0) → r ≡ None → IfNone r P → P
+none_given r P is given = subst (λ (x : Option Outcome). IfNone x P) is given
 
 rose_later : (before middle now : ℕ) → before ≤ middle → Rose middle now → Rose before now
 rose_later before middle now least rose = omega (arith, least, rose)

@@ -77,11 +77,19 @@ course_exchanges (Kept delivery fetch kind body at line) = []
 course_exchanges (Brought delivery fetch plan made how ended closed at line) = made
 course_exchanges (Short delivery fetch plan made how ended closed at line) = made
 
--- The plan was asked for the target, and what is shown is not want of memory.
+-- the fetch found no memory; or it brought content, which alone takes memory to be shared
+abbrev pub MayFallShort : Outcome → Type 0
+MayFallShort outcome.Memory = Unit {0}
+MayFallShort (outcome.Got got) = Unit {0}
+MayFallShort how = ⊥
+
+-- The plan was asked for the target. What is shown is not want of memory; and where no memory was found, it was in the
+-- fetch, or in sharing what it brought.
 abbrev pub IsPlanned : Target → Course → Type 0
 IsPlanned target (Brought delivery fetch plan made how ended closed at line) =
     IsAsked (origin_form target) plan made how × (how ≢ outcome.Memory) × IsBounded how
-IsPlanned target (Short delivery fetch plan made how ended closed at line) = IsAsked (origin_form target) plan made how
+IsPlanned target (Short delivery fetch plan made how ended closed at line) =
+    IsAsked (origin_form target) plan made how × MayFallShort how
 IsPlanned target NoRoom = Unit {0}
 IsPlanned target (Crowded count) = Unit {0}
 IsPlanned target (Full count) = Unit {0}
@@ -150,7 +158,7 @@ pub record Content (root : Target) (asked : Asked) (place : Place) (manner : Man
 
 -- what is answered with the outcome of a fetch: the constant 503 where no memory was found
 abbrev pub AnswersFetched : Manner → Outcome → Bool → Answer → Type 0
-AnswersFetched manner how true answer = IsConstant constant.Unavailable answer
+AnswersFetched manner how true answer = MayFallShort how × IsConstant constant.Unavailable answer
 AnswersFetched manner how false answer = (how ≢ outcome.Memory) × IsBounded how × IsShown (brought_shown manner how) answer
 
 -- what passes from the end of the fetch on

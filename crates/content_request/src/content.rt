@@ -1,10 +1,10 @@
 //! Requests for content.
 
-ghost use Rattle.std.specs.Prelude.{◌≡◌, ◌≢◌, ◌≤◌, ◌<◌, false, true, IfOk, IfSome, None};
+ghost use Rattle.std.specs.Prelude.{◌≡◌, ◌≢◌, ◌≤◌, ◌<◌, false, true, IfNone, IfOk, IfSome, None};
 ghost use Rattle.cdni_base.specs.declared.date.TheConstants.{DATE_END};
 ghost use Rattle.edge_base.specs.Causes.{Rose};
 ghost use Rattle.session_base.specs.Answer.{IsConstant, Says};
-ghost use Rattle.content_request.specs.Course.{Content, Course, Delivers, DeliversFetched, Follows, HasGateFault};
+ghost use Rattle.content_request.specs.Course.{Content, Course, Delivers, DeliversFetched, Follows, HasGateFault, MayFallShort};
 ghost use Rattle.session_base.specs.Doing.{Any, Does, Doing};
 ghost use Rattle.session_base.specs.Ending.{next_of};
 ghost use Rattle.session_base.specs.declared.ending.Ending.{Ending};
@@ -176,10 +176,19 @@ fn deliver_fetched<R: Threads + Wait + Sync, H: Home, K: Sink, C: Clock>(
 
 // the same outcome, whose body is shared; none where it or the sharing found no memory
 fn shared(alloc: Global, outcome: &Outcome) -> Option<Outcome>
-    ensures { IfSome result (λ shown. (shown ≡ outcome.now) × (outcome.now ≢ Outcome.Memory)) }
+    ensures some { IfSome result (λ shown. (shown ≡ outcome.now) × (outcome.now ≢ Outcome.Memory)) }
+    ensures none { IfNone result (MayFallShort outcome.now) }
 {
-    match outcome.share(alloc) {
-        Ok(Outcome::Memory) | Err(_) => None,
-        Ok(shown) => Some(shown),
+    match outcome {
+        Outcome::Got(got) => match got.share(alloc) {
+            Ok(shown) => Some(Outcome::Got(shown)),
+            Err(_) => None,
+        },
+        Outcome::Memory => None,
+        Outcome::Refused { status } => Some(Outcome::Refused { status: *status }),
+        Outcome::TooLong { length } => Some(Outcome::TooLong { length: *length }),
+        Outcome::Malformed { taken } => Some(Outcome::Malformed { taken: *taken }),
+        Outcome::Cut { taken } => Some(Outcome::Cut { taken: *taken }),
+        Outcome::Failed => Some(Outcome::Failed),
     }
 }

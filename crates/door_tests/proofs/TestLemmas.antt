@@ -1,15 +1,25 @@
 -- A worker in memory that did nothing yet.
-use Rattle.std.proofs.Common.{◌≡◌, ℕ, Bool, true, List, [], ◌∷◌, ◌++◌, All, refl, sym, ◌∙◌, ap, subst, map}
+use Rattle.std.proofs.Common.{◌≡◌, ℕ, Bool, true, false, List, [], ◌∷◌, ◌++◌, All, refl, sym, ◌∙◌, ap, subst, map}
 use Rattle.std.proofs.lemmas.List.Elements.{All-cons, All-nil}
 use Rattle.doors.specs.MemoryDoor.{Hall, book_of, given_at, told_if}
 use Rattle.doors.specs.MemoryOutside.{IsFresh, MemoryWorker}
+use Rattle.doors.proofs.ServedLemmas.{none_passed}
 use Rattle.doors.specs.Outside.{HasPassedNothing, IsAllOf}
+use Rattle.doors.specs.Served.{HasServedAll}
 use Rattle.edge_base.specs.ListClock.{Ticks, first_moments, moments_given}
 use Rattle.upstream_gate.specs.MemoryGate.{Answers, told_of}
 use Rattle.upstream_gate.specs.declared.outcome.Outcome.{Outcome}
 
 passes_nothing : (hall : Hall) → hall.telling ≡ true → hall.passed ≡ [] → HasPassedNothing (book_of hall)
 passes_nothing hall tells passed = subst (λ (b : Bool). HasPassedNothing (told_if b (record { left = map given_at hall.left; passed = hall.passed }))) (sym tells) passed
+
+passes_nothing_if : (telling : Bool) (hall : Hall) → hall.passed ≡ [] → HasPassedNothing (told_if telling (record { left = map given_at hall.left; passed = hall.passed }))
+passes_nothing_if true hall passed = passed
+passes_nothing_if false hall passed = tt
+
+-- a door in memory that gave none
+pub served_nobody : (hall : Hall) → hall.passed ≡ [] → HasServedAll (book_of hall)
+served_nobody hall passed = none_passed (book_of hall) (passes_nothing_if hall.telling hall passed)
 
 none_given : (moments : List ℕ) → first_moments moments 0 ≡ []
 unfolding first_moments

@@ -1,4 +1,8 @@
 // What no clause says: that a connection is served where there is memory.
+ghost use Rattle.std.specs.Prelude.{◌≡◌, IfOk, []};
+ghost use Rattle.doors.specs.MemoryDoor.{book_of};
+ghost use Rattle.doors.specs.Served.{HasServedAll};
+
 use cdni_base::{Body, Endpoint, Limits, Protocol, ProviderId, Target, Text, TextList, TypeName};
 use doors::{Connection, ConnectionList, DoorEnd, MemoryDoor, Passage, Worker, serve_door};
 use edge_base::{ListClock, MemorySink, MemorySource};
@@ -48,7 +52,9 @@ fn settings(alloc: Global) -> Result<Settings, Fail> {
     })
 }
 
-fn door(alloc: Global) -> Result<MemoryDoor, Fail> {
+fn door(alloc: Global) -> Result<MemoryDoor, Fail>
+    ensures { IfOk result (λ door. door.passed ≡ []) }
+{
     let mut given = ConnectionList::new(alloc);
     given.push(Connection {
         ip: Ip::V4(3_221_225_991),
@@ -58,25 +64,28 @@ fn door(alloc: Global) -> Result<MemoryDoor, Fail> {
     Ok(MemoryDoor::new(alloc, given, &[])?)
 }
 
-fn worker(alloc: Global) -> Result<Worker<MemoryDoor, MemoryGate, ListClock>, Fail> {
+fn worker(alloc: Global) -> Result<Worker<MemoryDoor, MemoryGate, ListClock>, Fail>
+    ensures { IfOk result (λ worker. HasServedAll (book_of worker.door)) }
+{
     let mut outcomes = OutcomeList::new(alloc);
     outcomes.push(got(alloc, b"application/json", DOCUMENT)?)?;
     outcomes.push(got(alloc, b"text/plain", b"hello")?)?;
-    Ok(Worker {
-        door: door(alloc)?,
-        gate: MemoryGate::new(alloc, outcomes)?,
-        clock: ListClock::new(alloc, &[1000])?,
-    })
+    let door = door(alloc)?;
+    let gate = MemoryGate::new(alloc, outcomes)?;
+    let clock = ListClock::new(alloc, &[1000])?;
+    Ok(Worker { door, gate, clock })
 }
 
-// serves the door's connections through a home of its own
+// serves the connections of a door at which nothing waits to be served, through a home of its own
 fn served<R: Threads + Wait + Sync>(
     rt: &R,
     alloc: Global,
     worker: &mut Worker<MemoryDoor, MemoryGate, ListClock>,
     places: &PlaceTable,
     settings: &Settings,
-) -> Result<DoorEnd, Fail> {
+) -> Result<DoorEnd, Fail>
+    requires { HasServedAll (book_of worker.old.door) }
+{
     let mut home = home(alloc)?;
     Ok(serve_door(rt, alloc, &mut home, worker, places, settings, None))
 }

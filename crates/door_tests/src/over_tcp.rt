@@ -183,7 +183,7 @@ fn serve_one<R: Threads + Wait + Sync, W: Wait + Clock + Clone + Send + Drop>(
     answer: &[u8],
     served: &mut Served,
 ) {
-    match door.accept(rt, alloc) {
+    match door.next_client(rt, alloc) {
         Accepted::One {
             ip: _,
             mut source,
@@ -194,7 +194,7 @@ fn serve_one<R: Threads + Wait + Sync, W: Wait + Clock + Clone + Send + Drop>(
             }
             served.read_faults = served.read_faults.saturating_add(source.faults());
             served.write_faults = served.write_faults.saturating_add(sink.faults());
-            door.close(source, sink);
+            door.close_client(source, sink);
         }
         Accepted::Closed => {}
         Accepted::Failed => {}
@@ -602,9 +602,9 @@ fn told_address<
 ) -> io::Result<Option<Ip>> {
     let client = dial(net, addr)?;
     say(&client, LAST)?;
-    match door.accept(rt, alloc) {
+    match door.next_client(rt, alloc) {
         Accepted::One { ip, source, sink } => {
-            door.close(source, sink);
+            door.close_client(source, sink);
             Ok(Some(ip))
         }
         Accepted::Closed => Ok(None),

@@ -2,3 +2,4 @@ pub mod EndedLemmas
 pub mod MemoryDoorLemmas
 pub mod MemoryOutsideLemmas
 pub mod VisitLemmas
+pub mod ServedLemmas

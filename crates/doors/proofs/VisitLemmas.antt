@@ -7,27 +7,51 @@ use Rattle.std.proofs.lemmas.Option.{none-some, same_Some}
 use Rattle.std.specs.List.{flat_map}
 use Rattle.std.specs.Option.{option_map}
 use Rattle.std.specs.declared.option.Option.{Option}
+use Rattle.std.specs.Io.KnownBytes.{Appends, Consumes}
+use Rattle.edge_base.specs.Causes.{Rose}
 use Rattle.edge_base.specs.Clock.{Grows}
 use Rattle.history.specs.Event.{History}
+use Rattle.location_acl.specs.Table.{GivesPlace}
 use Rattle.location_acl.specs.declared.line.PlaceLine.{PlaceLine}
 use Rattle.location_acl.specs.declared.footprint.Place.{Place}
 use Rattle.node_core.specs.Home.{Who}
 use Rattle.session_base.proofs.DoingLemmas.{makes_none, makes_then}
 use Rattle.session_base.specs.Doing.{Any, Doing, Makes, Told}
 use Rattle.session.specs.Ended.{AllEnded}
-use Rattle.session.specs.Session.{Session}
+use Rattle.session.specs.Session.{Leaves, Session}
 use Rattle.session_base.specs.declared.ending.Ending.{Ending}
+use Rattle.session_base.specs.declared.ending.Ending.TheVariants as ending
 use Rattle.session_base.specs.declared.settings.Settings.{Settings}
 use Rattle.upstream_gate.proofs.PlanLemmas.{grows_none, grows_on}
 use Rattle.upstream_gate.specs.Outcome.{Exchange}
 use Rattle.doors.proofs.EndedLemmas.{all_then, since}
-use Rattle.doors.specs.Door.{Accepts, Book, Gave, Given, Passed, Shuts, Took, One, Closed, Failed, Memory}
+use Rattle.doors.specs.Door.{Accepts, Book, Gave, Given, Passed, Shut, Shuts, Took, One, Closed, Failed, Memory}
 use Rattle.doors.specs.Ended.{EndsItsOwn, EndsSince}
 use Rattle.doors.specs.Visit.{HasNoneLeft, IsEndOf, IsStep, IsVisit, Serves, Visit, Visited, VisitedIn, calls_of, exchanges_of, given_of, moments_of, passed_of}
 use Rattle.doors.specs.declared.serve.DoorEnd.{DoorEnd}
 use Rattle.doors.specs.declared.serve.DoorEnd.TheVariants as door_end
 use Rattle.doors.specs.declared.serve.Step.{Step}
 use Rattle.doors.specs.declared.serve.Step.TheVariants as step
+
+-- ---- one connection
+
+abbrev pub visit_of : (given : Given) (shut : Shut) (d : Doing) (rest : List ℕ) (end : Ending) → Visit
+visit_of given shut d rest end = record { given = given; shut = shut; doing = d; rest = rest; ending = end }
+
+-- of what a session over it says
+pub was_visit : (settings : Settings) (table : List PlaceLine) (given : Given) (shut : Shut) (d : Doing) (rest : List ℕ) (end : Ending) (place : Place) (read written : ℕ) → read ≡ 0 → written ≡ 0 → GivesPlace table given.ip place → Session settings place d end
+    → Consumes given.left shut.left (d.bytes ++ rest) → Appends given.held shut.held d.written → Leaves shut.left rest end → (end ≡ ending.ReadFault → Rose read shut.read_faults) → (end ≡ ending.WriteFault → Rose written shut.write_faults)
+    → IsVisit settings table (visit_of given shut d rest end)
+was_visit settings table given shut d rest end place read written read_fresh write_fresh placed session took wrote leaves by_read by_write = record {
+  place = place;
+  placed = placed;
+  session = session;
+  took = took;
+  wrote = wrote;
+  leaves = leaves;
+  read_cause = λ is. subst (λ (n : ℕ). Rose n shut.read_faults) read_fresh (by_read is);
+  write_cause = λ is. subst (λ (n : ℕ). Rose n shut.write_faults) write_fresh (by_write is);
+}
 
 -- ---- what a door tells
 

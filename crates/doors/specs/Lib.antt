@@ -5,3 +5,4 @@ pub mod MemoryDoor
 pub mod MemoryOutside
 pub mod Outside
 pub mod Visit
+pub mod Served

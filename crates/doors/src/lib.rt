@@ -7,6 +7,7 @@ mod door;
 pub mod law;
 mod memory_door;
 mod memory_outside;
+pub mod numbers;
 mod outside;
 mod serve;
 

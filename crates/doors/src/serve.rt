@@ -9,6 +9,7 @@ ghost use Rattle.session_base.specs.Doing.{Any, Makes};
 ghost use Rattle.session.specs.Law.{KeepsTheLaw};
 ghost use Rattle.doors.specs.Door.{Shuts};
 ghost use Rattle.doors.specs.Ended.{EndsSince};
+ghost use Rattle.doors.specs.Served.{HasGivenLast, HasServedAll};
 ghost use Rattle.doors.specs.Visit.{IsEndOf, IsStep, IsVisit, Serves, Visit};
 
 use crate::door::{Accepted, Door};
@@ -46,7 +47,8 @@ pub(crate) enum Step {
 }
 
 /// Serves the connections of a worker's door, one after the other, each by one session, with the place of its address, and
-/// closes each before the next, whatever its session's ending is. It may wait, and need not return.
+/// closes each before the next, whatever its session's ending is. It may wait, and need not return: in a run that does not
+/// end too, each connection is served and closed before the door is asked for the next one.
 ///
 /// * `Closed`: only where the door has none left.
 /// * `Served`: exactly where as many were accepted as `connections` says.
@@ -61,6 +63,8 @@ pub fn serve_door<R: Threads + Wait + Sync, H: Home, D: Door, G: Gate, C: Clock>
     settings: &Settings,
     connections: Option<u64>,
 ) -> DoorEnd
+    requires { HasServedAll (D.book worker.old.door) }
+    ensures served { HasServedAll (D.book worker.new.door) }
     ensures who { H.who home.new ≡ H.who home.old }
     ensures stays { H.stays home.old home.new }
     ensures visits { (visits : List Visit) × Serves settings.now places.now (H.who home.old)
@@ -120,6 +124,8 @@ fn serve_next<R: Threads + Wait + Sync, H: Home, D: Door, G: Gate, C: Clock>(
     places: &PlaceTable,
     settings: &Settings,
 ) -> Step
+    requires { HasServedAll (D.book worker.old.door) }
+    ensures served { HasServedAll (D.book worker.new.door) }
     ensures who { H.who home.new ≡ H.who home.old }
     ensures stays { H.stays home.old home.new }
     ensures visits { (visits : List Visit) × Serves settings.now places.now (H.who home.old)
@@ -154,6 +160,9 @@ fn serve_given<R: Threads + Wait + Sync, H: Home, D: Door, G: Gate, C: Clock>(
 )
     requires read_fresh { D.S.faults source ≡ 0 }
     requires write_fresh { D.K.faults sink ≡ 0 }
+    requires last { HasGivenLast (D.book worker.old.door)
+        (record { ip = ip; left = D.S.left source; held = D.K.held sink }) }
+    ensures served { HasServedAll (D.book worker.new.door) }
     ensures who { H.who home.new ≡ H.who home.old }
     ensures stays { H.stays home.old home.new }
     ensures visit { (v : Visit) × IsVisit settings.now places.now v

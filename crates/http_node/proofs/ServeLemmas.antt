@@ -250,6 +250,7 @@ module _ (options : Options) (asked : List Asked) (places : List PlaceLine) (tab
         placed = table;
         number = d.number;
         why = d.why;
+        fewer = d.fewer;
         called = refl;
         as_many = d.as_many;
         no_line = refl;

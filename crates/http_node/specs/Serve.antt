@@ -101,13 +101,14 @@ pub record Unheard (options : Options) (line : Option ℕ) (result : Status) (ca
   pub no_line : line ≡ None
   pub ends_so : result ≡ fault_status met
 
--- it listens; so many workers are given, and then no more: each is given back
+-- it listens; so many workers are given, no more than the options ask for, and then no more: each is given back
 pub record Unmanned (options : Options) (line : Option ℕ) (result : Status) (calls : List Asked) (back : List Tellings) : Type 0 where
   pub asked : List Asked
   pub places : List PlaceLine
   pub placed : IsTable options.places asked places
   pub number : ℕ
   pub why : Unhired
+  pub fewer : number ≤ options.workers
   pub called : calls ≡ asked ++ Listened options.address None ∷ (replicate number (Hired true) ++ refused why)
   pub as_many : length back ≡ number
   pub no_line : line ≡ None

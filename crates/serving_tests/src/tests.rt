@@ -1,5 +1,7 @@
 //! `serve_door` over TCP: clients, a node with its door and its gate, and an origin, all in one process.
 
+ghost use Rattle.doors.specs.Served.{HasServedAll};
+
 use cdni_base::{Endpoint, Limits, Protocol, ProviderId, Target, Text, TextList};
 use doors::{Door, DoorEnd, Outside, Worker, serve_door};
 use edge_base::{Clock, MemorySink, Status, WallClock};
@@ -213,7 +215,9 @@ fn serve<R: Threads + Wait + Sync, N: Net<Stream = TcpStream>, D: Door, G: Gate,
     origin: SocketAddr,
     connections: u64,
     ended: &AtomicU64,
-) -> DoorEnd {
+) -> DoorEnd
+    requires { HasServedAll (D.book worker.old.door) }
+{
     let end = serve_door(rt, alloc, home, worker, places, settings, Some(connections));
     ended.store(1, Ordering::SeqCst);
     drop(dial(net, origin));

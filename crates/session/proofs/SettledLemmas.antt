@@ -1,5 +1,5 @@
 -- A trigger that is created in a session makes its steps in it.
-use Rattle.std.proofs.Common.{◌≡◌, ◌≢◌, ◌⊎◌, ℕ, ◌+◌, ◌==◌, Bool, true, false, ◌&&◌, ◌||◌, List, [], ◌∷◌, ◌++◌, refl, sym, ap, ◌∙◌, subst, None, Some, Option, inl, inr}
+use Rattle.std.proofs.Common.{◌≡◌, ◌≢◌, ◌⊎◌, ℕ, ◌+◌, ◌==◌, Bool, true, false, ◌&&◌, ◌||◌, List, [], ◌∷◌, ◌++◌, append-nil, refl, sym, ap, ◌∙◌, subst, None, Some, Option, inl, inr}
 use Rattle.std.specs.List.{list_any}
 use Rattle.std.proofs.lemmas.Bool.{both_ways, cases_Bool, eq-eqb, and_from, or_left, or_parts, or_right}
 use Rattle.std.proofs.lemmas.List.Folds.{list_any-append}
@@ -39,20 +39,16 @@ use Rattle.upstream_gate.specs.declared.outcome.Outcome.TheVariants as outcome
 use Rattle.session.proofs.RecordedLemmas.{told_longer}
 use Rattle.session.specs.Session.{Runs}
 use Rattle.session.proofs.StepLemmas.{is_step}
-use Rattle.session.specs.Settled.{AllRest, AllSettle, NoStepStaysOpen, RestsIn, Settles, is_refusal, is_rest, is_step_open, new_trigger, steps_so}
+use Rattle.session.specs.Settled.{AllButLastRest, AllButLastSettle, AllRest, AllSettle, BecameFinal, CreatesNone, NoStepStaysOpen, RestsIn, Settles, is_refusal, is_rest, is_step_open, new_trigger, steps_so}
 use Rattle.session.specs.Turn.{Turn}
 
 -- ---- calls that create no trigger
 
-abbrev NoneNew : List Called → Type 0
-NoneNew [] = Unit {0}
-NoneNew (call ∷ calls) = (new_trigger call ≡ None) × NoneNew calls
-
-none_then : (calls more : List Called) → NoneNew calls → NoneNew more → NoneNew (calls ++ more)
+none_then : (calls more : List Called) → CreatesNone calls → CreatesNone more → CreatesNone (calls ++ more)
 none_then [] more none others = others
 none_then (call ∷ calls) more none others = (none.0, none_then calls more none.1 others)
 
-rests_none : (calls : List Called) → NoneNew calls → AllRest calls
+rests_none : (calls : List Called) → CreatesNone calls → AllRest calls
 rests_none [] none = tt
 rests_none (call ∷ calls) none = (λ id is. absurd (none-some id (sym none.0 ∙ is)), rests_none calls none.1)
 
@@ -66,11 +62,19 @@ rest_then : (calls more : List Called) → AllRest calls → AllRest more → Al
 rest_then [] more all others = others
 rest_then (call ∷ calls) more all others = (λ id is. rests_longer id calls more (all.0 id is), rest_then calls more all.1 others)
 
+but_last : (calls : List Called) → AllRest calls → AllButLastRest calls
+but_last [] all = tt
+but_last (call ∷ calls) all = (λ id is. inl (all.0 id is), but_last calls all.1)
+
+rest_but_last : (calls more : List Called) → AllRest calls → AllButLastRest more → AllButLastRest (calls ++ more)
+rest_but_last [] more all others = others
+rest_but_last (call ∷ calls) more all others = (λ id is. inl (rests_longer id calls more (all.0 id is)), rest_but_last calls more all.1 others)
+
 -- ---- a step
 
 -- a step creates no trigger, and where there is none more it rests
 abbrev Stepping : ℕ → List Called → Step → Type 0
-Stepping id calls after = NoneNew calls × (after ≡ step.Rests → RestsIn id calls)
+Stepping id calls after = CreatesNone calls × (after ≡ step.Rests → RestsIn id calls)
 
 abbrev is_goes : Step → Bool
 is_goes step.Goes = true
@@ -93,10 +97,10 @@ this_rests id at line calls is = or_left (id == id && is_rest line) (list_any (s
 
 -- a step behind which there is another one, and the last one
 goes_step : (id at : ℕ) (line : Reply) (behind : Doing) (after : Step) → behind ≡ nothing → after ≡ step.Goes → Stepping id (advanced id at line ∷ behind.calls) after
-goes_step id at line behind after is goes = (subst (λ (x : Doing). NoneNew (advanced id at line ∷ x.calls)) (sym is) (refl, tt), λ rests. goes_on after goes rests)
+goes_step id at line behind after is goes = (subst (λ (x : Doing). CreatesNone (advanced id at line ∷ x.calls)) (sym is) (refl, tt), λ rests. goes_on after goes rests)
 
 last_step : (id at : ℕ) (line : Reply) (behind : Doing) (after : Step) → is_rest line ≡ true → behind ≡ nothing → Stepping id (advanced id at line ∷ behind.calls) after
-last_step id at line behind after rests is = (subst (λ (x : Doing). NoneNew (advanced id at line ∷ x.calls)) (sym is) (refl, tt), λ this. this_rests id at line behind.calls rests)
+last_step id at line behind after rests is = (subst (λ (x : Doing). CreatesNone (advanced id at line ∷ x.calls)) (sym is) (refl, tt), λ this. this_rests id at line behind.calls rests)
 
 after_fetch : {A : Type 0} (how : Outcome) → step_after how ≡ step.Rests → A
 after_fetch (outcome.Got got) is = goes_on _ refl is
@@ -109,7 +113,7 @@ after_fetch outcome.Memory is = falls_short _ refl is
 
 fetch_step : (id at : ℕ) (line : Reply) (fetch : ℕ) (plan : _) (target : Target) (behind : Doing) (after : Step) → FetchesFor fetch plan target behind after → Stepping id (advanced id at line ∷ behind.calls) after
 fetch_step id at line fetch plan target behind after f =
-    (subst (λ (x : Doing). NoneNew (advanced id at line ∷ x.calls)) (sym f.is) (refl, (refl, tt)), λ rests. after_fetch f.how (sym f.goes ∙ rests))
+    (subst (λ (x : Doing). CreatesNone (advanced id at line ∷ x.calls)) (sym f.is) (refl, (refl, tt)), λ rests. after_fetch f.how (sym f.goes ∙ rests))
 
 no_refresh : {A : Type 0} (root : Target) (refresh : ℕ) (behind : Doing) (after : Step) → RefreshesFor root refresh behind after → after ≡ step.Rests → A
 no_refresh root refresh behind step.Goes r is = goes_on _ refl is
@@ -118,7 +122,7 @@ no_refresh root refresh behind step.Memory r is = falls_short _ refl is
 
 refresh_step : (id at : ℕ) (line : Reply) (root : Target) (refresh : ℕ) (behind : Doing) (after : Step) → RefreshesFor root refresh behind after → Stepping id (advanced id at line ∷ behind.calls) after
 refresh_step id at line root refresh behind after r =
-    (subst (λ (x : Doing). NoneNew (advanced id at line ∷ x.calls)) (sym r.is) (refl, (refl, tt)), λ rests. no_refresh root refresh behind after r rests)
+    (subst (λ (x : Doing). CreatesNone (advanced id at line ∷ x.calls)) (sym r.is) (refl, (refl, tt)), λ rests. no_refresh root refresh behind after r rests)
 
 behind_steps : (root : Target) (id at : ℕ) (line : Reply) (behind : Doing) (after : Step) → Behind root line behind after → Stepping id (advanced id at line ∷ behind.calls) after
 behind_steps root id at reply.Started behind after b = goes_step id at reply.Started behind after b.0 b.1
@@ -154,15 +158,15 @@ behind_steps root id at (reply.Numbers list) behind after b = absurd b
 behind_steps root id at reply.Dropped behind after b = absurd b
 
 step_steps : (root : Target) (id : ℕ) (d : Doing) (after : Step) → AdvanceStep root id d after → Stepping id d.calls after
-step_steps root id d after (inl lacks) = (subst (λ (x : Doing). NoneNew x.calls) (sym lacks.is) tt, λ rests. falls_short after lacks.goes rests)
+step_steps root id d after (inl lacks) = (subst (λ (x : Doing). CreatesNone x.calls) (sym lacks.is) tt, λ rests. falls_short after lacks.goes rests)
 step_steps root id d after (inr moves) = subst (λ (x : Doing). Stepping id x.calls after) (sym moves.is) (behind_steps root id moves.at moves.answer moves.behind after moves.follows)
 
 -- all steps
-over_steps : (root : Target) (id : ℕ) (done d all : Doing) (after : Step) → NoneNew done.calls → AdvanceStep root id d after → all ≡ then done d → Stepping id all.calls after
+over_steps : (root : Target) (id : ℕ) (done d all : Doing) (after : Step) → CreatesNone done.calls → AdvanceStep root id d after → all ≡ then done d → Stepping id all.calls after
 over_steps root id done d all after none made is = let s = step_steps root id d after made in
     subst (λ (x : Doing). Stepping id x.calls after) (sym is) (none_then done.calls d.calls none s.0, λ rests. rests_later id done.calls d.calls (s.1 rests))
 
-steps_rest : (root : Target) (id : ℕ) (done : Doing) (ds : List Doing) (last : Step) (all : Doing) → NoneNew done.calls → Steps root id done ds last all → Stepping id all.calls last
+steps_rest : (root : Target) (id : ℕ) (done : Doing) (ds : List Doing) (last : Step) (all : Doing) → CreatesNone done.calls → Steps root id done ds last all → Stepping id all.calls last
 unfolding Steps
 steps_rest root id done [] last all none steps = absurd steps
 steps_rest root id done (d ∷ ds) last all none (step.Goes, made, rest) = steps_rest root id (then done d) ds last all (none_then done.calls d.calls none (step_steps root id d step.Goes made).0) rest
@@ -196,13 +200,13 @@ breaks_behind step.Goes after is = absurd (both_ways false refl is)
 breaks_behind step.Rests after is = absurd (both_ways false refl is)
 breaks_behind step.Memory after is = refl
 
-course_none : (IsRight : Course → Type 0) → ((event : Event) (line : Reply) (short : Bool) → IsRight (Replied event line short) → new_trigger (event, line) ≡ None) → (course : Course) → IsRight course → NoneNew (course_calls course)
+course_none : (IsRight : Course → Type 0) → ((event : Event) (line : Reply) (short : Bool) → IsRight (Replied event line short) → new_trigger (event, line) ≡ None) → (course : Course) → IsRight course → CreatesNone (course_calls course)
 course_none IsRight sound NoRoom right = tt
 course_none IsRight sound (Uncalled given) right = tt
 course_none IsRight sound (Replied event line short) right = (sound event line short right, tt)
 
-controls_none : (IsRight : Course → Type 0) → ((event : Event) (line : Reply) (short : Bool) → IsRight (Replied event line short) → new_trigger (event, line) ≡ None) → (settings : Settings) (manner : Manner) (d : Doing) (after : Next) → Controls IsRight settings manner d after → NoneNew d.calls
-controls_none IsRight sound settings manner d after c = subst NoneNew (sym c.calls) (course_none IsRight sound c.course c.right)
+controls_none : (IsRight : Course → Type 0) → ((event : Event) (line : Reply) (short : Bool) → IsRight (Replied event line short) → new_trigger (event, line) ≡ None) → (settings : Settings) (manner : Manner) (d : Doing) (after : Next) → Controls IsRight settings manner d after → CreatesNone d.calls
+controls_none IsRight sound settings manner d after c = subst CreatesNone (sym c.calls) (course_none IsRight sound c.course c.right)
 
 read_none : (which : ControlAsk) (moment : ℕ) (event : Event) (line : Reply) → event_at which moment ≡ Some event → new_trigger (event, line) ≡ None
 read_none ask.Absent moment event line is = absurd (none-some event is)
@@ -227,12 +231,18 @@ created_rests settings spec manner d after t enough = subst AllRest (sym t.calls
   rests_none t.steps.calls (steps_rest settings.root t.id nothing t.advances.0 t.last t.steps tt t.advances.1).0,
 )
 
+-- the last trigger of a connection that ends for want of memory need not rest
+created_last : (settings : Settings) (spec : _) (manner : Manner) (d : Doing) (after : Next) → (t : Triggers settings spec manner d after) → AllButLastRest d.calls
+created_last settings spec manner d after t =
+    let none = (steps_rest settings.root t.id nothing t.advances.0 t.last t.steps tt t.advances.1).0 in
+    subst AllButLastRest (sym t.calls) (λ id is. inr none, but_last t.steps.calls (rests_none t.steps.calls none))
+
 abbrev RestsOrBreaks : List Called → Next → Type 0
-RestsOrBreaks calls after = AllRest calls ⊎ Breaks after
+RestsOrBreaks calls after = AllRest calls ⊎ (Breaks after × AllButLastRest calls)
 
 triggers_rest : (settings : Settings) (spec : _) (manner : Manner) (d : Doing) (after : Next) → (t : Triggers settings spec manner d after) → RestsOrBreaks d.calls after
 triggers_rest settings spec manner d after t = elim (cases_Bool (is_short_step t.last)) [
-  | inl short ↦ inr (subst Breaks (sym t.goes) (breaks_behind t.last (next_of manner.leaves t.short t.fault) short))
+  | inl short ↦ inr (subst Breaks (sym t.goes) (breaks_behind t.last (next_of manner.leaves t.short t.fault) short), created_last settings spec manner d after t)
   | inr enough ↦ inl (created_rests settings spec manner d after t (λ is. both_ways (is_short_step t.last) enough (ap is_short_step is)))
 ]
 
@@ -246,14 +256,14 @@ serves_rest settings asked body manner d after (which, asks, (inl (is, (inl c)))
 serves_rest settings asked body manner d after (which, asks, (inl (is, (inr (command, reads, acts))))) = acts_rest settings command.act manner d after acts
 serves_rest settings asked body manner d after (which, asks, (inr (other, c))) = inl (rests_none d.calls (controls_none (IsRead settings which manner.moment) (λ event line short is. read_none which manner.moment event line is) settings manner d after c))
 
-refresh_none : (moment : ℕ) (how : Refreshing) → NoneNew (refresh_calls moment how)
+refresh_none : (moment : ℕ) (how : Refreshing) → CreatesNone (refresh_calls moment how)
 refresh_none moment NoBegin = tt
 refresh_none moment (NotDue later) = (refl, tt)
 refresh_none moment (Thronged count) = (refl, tt)
 refresh_none moment (Gathered refresh made tree at line) = (refl, (refl, tt))
 refresh_none moment (Ungathered refresh made at line) = (refl, (refl, tt))
 
-content_none : (asked : Asked) (place : Place) (moment : ℕ) (answer : Answer) (taken : ℕ) (course : ContentCourse) → NoneNew (content_calls (Admit asked place moment) answer taken course)
+content_none : (asked : Asked) (place : Place) (moment : ℕ) (answer : Answer) (taken : ℕ) (course : ContentCourse) → CreatesNone (content_calls (Admit asked place moment) answer taken course)
 content_none asked place moment answer taken NoPlace = tt
 content_none asked place moment answer taken (Crowded count) = tt
 content_none asked place moment answer taken (Full count) = (refl, tt)
@@ -290,12 +300,24 @@ unfolding Runs
 runs_rest settings place n done [] end all rests runs enough = subst (λ (x : Doing). AllRest x.calls) (sym runs.2) rests
 runs_rest settings place n done (d ∷ ds) end all rests (within, next.GoesOn, turn, rest) enough = elim (turn_rests settings place _ d next.GoesOn turn) [
   | inl here ↦ runs_rest settings place (n + 1) (then done d) ds end all (rest_then done.calls d.calls rests here) rest enough
-  | inr breaks ↦ on_breaks breaks
+  | inr breaks ↦ on_breaks breaks.0
 ]
 runs_rest settings place n done (d ∷ ds) end all rests (within, next.Stops e, turn, (last, same, is)) enough = elim (turn_rests settings place _ d (next.Stops e) turn) [
   | inl here ↦ subst (λ (x : Doing). AllRest x.calls) (sym is) (rest_then done.calls d.calls rests here)
-  | inr breaks ↦ end_breaks end e same enough breaks
+  | inr breaks ↦ end_breaks end e same enough breaks.0
 ]
+
+pub runs_rest_but_last : (settings : Settings) (place : Place) (n : ℕ) (done : Doing) (turns : List Doing) (end : Ending) (all : Doing) → AllRest done.calls → Runs settings place n done turns end all → AllButLastRest all.calls
+unfolding Runs
+runs_rest_but_last settings place n done [] end all rests runs = subst (λ (x : Doing). AllButLastRest x.calls) (sym runs.2) (but_last done.calls rests)
+runs_rest_but_last settings place n done (d ∷ ds) end all rests (within, next.GoesOn, turn, rest) = elim (turn_rests settings place _ d next.GoesOn turn) [
+  | inl here ↦ runs_rest_but_last settings place (n + 1) (then done d) ds end all (rest_then done.calls d.calls rests here) rest
+  | inr breaks ↦ on_breaks breaks.0
+]
+runs_rest_but_last settings place n done (d ∷ ds) end all rests (within, next.Stops e, turn, (last, same, is)) = subst (λ (x : Doing). AllButLastRest x.calls) (sym is) (elim (turn_rests settings place _ d (next.Stops e) turn) [
+  | inl here ↦ but_last (done.calls ++ d.calls) (rest_then done.calls d.calls rests here)
+  | inr breaks ↦ rest_but_last done.calls d.calls rests breaks.1
+])
 
 -- ---- in the history
 
@@ -338,10 +360,19 @@ why_rests (reply.Numbers list) is = absurd (both_ways false refl is)
 why_rests reply.Dropped is = absurd (both_ways false refl is)
 
 final_settles : FinalLaw → (made : Made) (before since last : History) (pass id moment : ℕ) (status : JobStatus) (calls : List Called) → last ≡ (before ++ (pass, Advance id moment) ∷ []) ++ since → reply_to made before (pass, Advance id moment) ≡ reply.Final status → Settles made last id calls
-final_settles law made before since last pass id moment status calls longer is = elim (law made before since pass id moment status is) [
-  | inl final ↦ inl (subst (λ (h : History). IsFinalIn (world_of made h) id) (sym longer) final)
-  | inr gone ↦ inr (inl (ap (list_any (deletes id)) longer ∙ list_any-append (deletes id) (before ++ (pass, Advance id moment) ∷ []) since ∙ or_right _ _ gone))
-]
+final_settles law made before since last pass id moment status calls longer is = inl (record {
+  before = before ++ (pass, Advance id moment) ∷ [];
+  since = since;
+  longer = longer;
+  final = elim (law made before [] pass id moment status is) [
+    | inl final ↦ subst (λ (h : History). IsFinalIn (world_of made h) id) (append-nil (before ++ (pass, Advance id moment) ∷ [])) final
+    | inr gone ↦ absurd (both_ways false refl gone)
+  ];
+  stays = elim (law made before since pass id moment status is) [
+    | inl final ↦ inl (subst (λ (h : History). IsFinalIn (world_of made h) id) (sym longer) final)
+    | inr gone ↦ inr gone
+  ];
+})
 
 this_step : (id : ℕ) (so : Bool) → so ≡ true → (id == id && so) ≡ true
 this_step id so is = and_from (id == id) so (eq-eqb id id refl) is
@@ -352,7 +383,7 @@ step_settles law who before last id moment answer calls answered told closed res
   | inl final ↦ let since = told_longer who (before ++ (who.number, Advance id moment) ∷ []) calls last told in
       final_settles law who.made before since.0 last who.number id moment final.0 ((Advance id moment, answer) ∷ calls) since.1 (sym answered ∙ final.1)
   | inr other ↦ elim other [
-    | inl refused ↦ inr (inr (or_left (id == id && is_refusal answer) (list_any (steps_so is_refusal id) calls) (this_step id (is_refusal answer) refused)))
+    | inl refused ↦ inr (or_left (id == id && is_refusal answer) (list_any (steps_so is_refusal id) calls) (this_step id (is_refusal answer) refused))
     | inr open_still ↦ absurd (both_ways (id == id && is_step_open answer) closed (this_step id (is_step_open answer) open_still))
   ]
 ]
@@ -366,8 +397,7 @@ call_settles law who before last id event answer calls answered told closed is =
 
 settles_later : (made : Made) (last : History) (id : ℕ) (call : Called) (calls : List Called) → Settles made last id calls → Settles made last id (call ∷ calls)
 settles_later made last id call calls (inl final) = inl final
-settles_later made last id call calls (inr (inl gone)) = inr (inl gone)
-settles_later made last id call calls (inr (inr refused)) = inr (inr (or_right (steps_so is_refusal id call) (list_any (steps_so is_refusal id) calls) refused))
+settles_later made last id call calls (inr refused) = inr (or_right (steps_so is_refusal id call) (list_any (steps_so is_refusal id) calls) refused)
 
 settles_by : FinalLaw → (who : Who) (h : History) (calls : List Called) (last : History) (id : ℕ) → Told who h calls last → list_any (steps_so is_step_open id) calls ≡ false → RestsIn id calls → Settles who.made last id calls
 settles_by law who h [] last id told closed is = absurd (both_ways false refl is)
@@ -383,4 +413,14 @@ all_settle law who h [] last told none rests = tt
 all_settle law who h (call ∷ calls) last (others, are, answered, told) none rests = (
   λ id is. settles_by law who ((h ++ others) ++ (who.number, call.0) ∷ []) calls last id told (none.0 id is) (rests.0 id is),
   all_settle law who ((h ++ others) ++ (who.number, call.0) ∷ []) calls last told none.1 rests.1,
+)
+
+pub all_but_last_settle : FinalLaw → (who : Who) (h : History) (calls : List Called) (last : History) → Told who h calls last → NoStepStaysOpen calls → AllButLastRest calls → AllButLastSettle who.made last calls
+all_but_last_settle law who h [] last told none rests = tt
+all_but_last_settle law who h (call ∷ calls) last (others, are, answered, told) none rests = (
+  λ id is. elim (rests.0 id is) [
+    | inl rest ↦ inl (settles_by law who ((h ++ others) ++ (who.number, call.0) ∷ []) calls last id told (none.0 id is) rest)
+    | inr last_one ↦ inr last_one
+  ],
+  all_but_last_settle law who ((h ++ others) ++ (who.number, call.0) ∷ []) calls last told none.1 rests.1,
 )

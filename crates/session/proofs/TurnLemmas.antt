@@ -1,5 +1,5 @@
 -- One request, or why there is none.
-use Rattle.std.proofs.Common.{◌≡◌, ℕ, ◌<◌, Bool, true, false, not, List, [], ◌∷◌, ◌++◌, length, refl, sym, ◌∙◌, ap, subst, Some, None, Option, append-nil, inl, inr}
+use Rattle.std.proofs.Common.{◌≤◌, ◌≡◌, ℕ, ◌<◌, Bool, true, false, not, List, [], ◌∷◌, ◌++◌, length, refl, sym, ◌∙◌, ap, subst, Some, None, Option, append-nil, inl, inr}
 use Rattle.std.specs.Option.{option_map}
 use Rattle.std.specs.Io.KnownBytes.{IsAtEnd}
 use Rattle.std.proofs.lemmas.Option.{none-some, same_Some}
@@ -215,17 +215,17 @@ answered_free left inbox settings place asked body manner d after (inr content) 
 
 -- the request was read whole, and served
 pub served : (front body : List ℕ) (who : Who) (a b : History → Type 0) (g g' g'' : Option (List ℕ)) (t t' : Option (List Exchange)) (k k' : Option (List ℕ)) (left left' : Option (List ℕ)) (inbox inbox' : List ℕ) (settings : Settings) (place : Place) (last : Bool) (head : HeadParts) (moment : ℕ) (asked : Asked) (manner : Manner) (after : Next) (d : Doing)
-    → Spells front head → asked_of settings.protocol head ≡ Some asked → manner ≡ manner_of head (capped moment) last → framing_of head.headers ≡ framing.Length (length body)
+    → Spells front head → asked_of settings.protocol head ≡ Some asked → manner ≡ manner_of head (capped moment) last → framing_of head.headers ≡ framing.Length (length body) → length body ≤ BODY_LIMIT
     → Grows g g' (moment ∷ []) → Moves left left' inbox inbox' body → Answers settings place asked body manner d after → Does who Any a b g' g'' t t' k k' d
     → TurnedBehind front who a b g g'' t t' k k' left left' inbox inbox' settings place last after
-served front body who a b g g' g'' t t' k k' left left' inbox inbox' settings place last head moment asked manner after d spells asks manners framed grows moves answers does = (
+served front body who a b g g' g'' t t' k k' left left' inbox inbox' settings place last head moment asked manner after d spells asks manners framed within grows moves answers does = (
   record { bytes = body; moments = moment ∷ d.moments; exchanges = d.exchanges; written = d.written; calls = d.calls },
   inr (inr (inr (record {
     asked = asked;
     head = head;
     moment = moment;
     inner = d;
-    whole = record { front = front; content = body; spells = spells; asks = asks; framed = framed; is = refl };
+    whole = record { front = front; content = body; spells = spells; asks = asks; framed = framed; within = within; is = refl };
     answers = subst (λ (m : Manner). Answers settings place asked body m d after) manners answers;
   }))),
   moves,
@@ -255,28 +255,28 @@ untouched left left' inbox inbox' is = moves_kept left left left' inbox inbox in
 
 -- by the length of the body, where it is within the limit
 within_limit : (count : ℕ) (left left' : Option (List ℕ)) (inbox inbox' : List ℕ) (result : BodyRead) → ((len : ℕ) → result ≡ body.TooLarge len → ⊥) → ReadsBody BODY_LIMIT left left' inbox inbox' (framing.Length count) result
-    → ReadsLength count left left' inbox inbox' result
+    → (count ≤ BODY_LIMIT) × ReadsLength count left left' inbox inbox' result
 within_limit count left left' inbox inbox' result other reads = elim (cases_lt BODY_LIMIT count) [
   | inl above ↦ absurd (other count (reads.0 above).0)
-  | inr within ↦ reads.1 within
+  | inr within ↦ (within, reads.1 within)
 ]
 
 -- the body was read whole
-pub body_whole : (told : Framing) (left left' : Option (List ℕ)) (inbox inbox' text : List ℕ) → ReadsBody BODY_LIMIT left left' inbox inbox' told (body.Body text) → (told ≡ framing.Length (length text)) × Moves left left' inbox inbox' text
+pub body_whole : (told : Framing) (left left' : Option (List ℕ)) (inbox inbox' text : List ℕ) → ReadsBody BODY_LIMIT left left' inbox inbox' told (body.Body text) → (told ≡ framing.Length (length text)) × Moves left left' inbox inbox' text × (length text ≤ BODY_LIMIT)
 body_whole framing.Coded left left' inbox inbox' text reads = cc
 body_whole framing.BadLength left left' inbox inbox' text reads = cc
-body_whole (framing.Length count) left left' inbox inbox' text reads = let r = within_limit count left left' inbox inbox' (body.Body text) (λ len e. cc) reads in (ap (λ (n : ℕ). framing.Length n) (sym r.1), r.0)
+body_whole (framing.Length count) left left' inbox inbox' text reads = let r = within_limit count left left' inbox inbox' (body.Body text) (λ len e. cc) reads in (ap (λ (n : ℕ). framing.Length n) (sym r.1.1), r.1.0, subst (λ (n : ℕ). n ≤ BODY_LIMIT) (sym r.1.1) r.0)
 
 -- the request is refused by what is told of its body
 pub body_coded : (told : Framing) (left left' : Option (List ℕ)) (inbox inbox' : List ℕ) → ReadsBody BODY_LIMIT left left' inbox inbox' told body.Coded → IsRefusedBody told constant.LengthRequired × Moves left left' inbox inbox' []
 body_coded framing.Coded left left' inbox inbox' reads = (refl, untouched left left' inbox inbox' reads.1)
 body_coded framing.BadLength left left' inbox inbox' reads = cc
-body_coded (framing.Length count) left left' inbox inbox' reads = absurd (within_limit count left left' inbox inbox' body.Coded (λ len e. cc) reads)
+body_coded (framing.Length count) left left' inbox inbox' reads = absurd ((within_limit count left left' inbox inbox' body.Coded (λ len e. cc) reads).1)
 
 pub body_bad : (told : Framing) (left left' : Option (List ℕ)) (inbox inbox' : List ℕ) (taken : ℕ) → ReadsBody BODY_LIMIT left left' inbox inbox' told (body.BadLength taken) → IsRefusedBody told constant.BadRequest × Moves left left' inbox inbox' []
 body_bad framing.Coded left left' inbox inbox' taken reads = cc
 body_bad framing.BadLength left left' inbox inbox' taken reads = (refl, untouched left left' inbox inbox' reads.1)
-body_bad (framing.Length count) left left' inbox inbox' taken reads = absurd (within_limit count left left' inbox inbox' (body.BadLength taken) (λ len e. cc) reads)
+body_bad (framing.Length count) left left' inbox inbox' taken reads = absurd ((within_limit count left left' inbox inbox' (body.BadLength taken) (λ len e. cc) reads).1)
 
 pub body_large : (told : Framing) (left left' : Option (List ℕ)) (inbox inbox' : List ℕ) (len : ℕ) → ReadsBody BODY_LIMIT left left' inbox inbox' told (body.TooLarge len) → IsRefusedBody told constant.ContentTooLarge × Moves left left' inbox inbox' []
 body_large framing.Coded left left' inbox inbox' len reads = cc
@@ -303,12 +303,12 @@ body_cut asked some (framing.Length count) left left' inbox inbox' taken is read
 pub body_fault : (told : Framing) (left left' : Option (List ℕ)) (inbox inbox' : List ℕ) → ReadsBody BODY_LIMIT left left' inbox inbox' told body.ReadFault → (part : List ℕ) × Moves left left' inbox inbox' part
 body_fault framing.Coded left left' inbox inbox' reads = cc
 body_fault framing.BadLength left left' inbox inbox' reads = cc
-body_fault (framing.Length count) left left' inbox inbox' reads = within_limit count left left' inbox inbox' body.ReadFault (λ len e. cc) reads
+body_fault (framing.Length count) left left' inbox inbox' reads = (within_limit count left left' inbox inbox' body.ReadFault (λ len e. cc) reads).1
 
 pub body_short : (told : Framing) (left left' : Option (List ℕ)) (inbox inbox' : List ℕ) → ReadsBody BODY_LIMIT left left' inbox inbox' told body.Memory → (part : List ℕ) × Moves left left' inbox inbox' part
 body_short framing.Coded left left' inbox inbox' reads = cc
 body_short framing.BadLength left left' inbox inbox' reads = cc
-body_short (framing.Length count) left left' inbox inbox' reads = within_limit count left left' inbox inbox' body.Memory (λ len e. cc) reads
+body_short (framing.Length count) left left' inbox inbox' reads = (within_limit count left left' inbox inbox' body.Memory (λ len e. cc) reads).1
 
 -- a request without a target
 pub refused_head : (asked : Option Asked) (told : Framing) → asked ≡ None → IsRefused asked told constant.BadRequest

@@ -1,5 +1,5 @@
 -- What becomes of the triggers that are created in a list of calls (RFC 8007, sections 2 and 4.3).
-use Rattle.std.specs.Prelude.{◌≡◌, ◌⊎◌, ℕ, Bool, true, false, ◌&&◌, ◌==◌, List, [], ◌∷◌, None, Some}
+use Rattle.std.specs.Prelude.{◌≡◌, ◌⊎◌, ℕ, Bool, true, false, ◌&&◌, ◌==◌, List, [], ◌∷◌, ◌++◌, None, Some}
 use Rattle.std.specs.List.{list_any}
 use Rattle.std.specs.declared.option.Option.{Option}
 use Rattle.history.specs.After.{created_trigger}
@@ -54,12 +54,35 @@ NoStepStaysOpen [] = Unit {0}
 NoStepStaysOpen (call ∷ calls) = ((id : ℕ) → new_trigger call ≡ Some id → list_any (steps_so is_step_open id) calls ≡ false)
     × NoStepStaysOpen calls
 
--- In the history to which these calls lead it has its last status, or it was deleted; or one of its steps was refused.
+-- none of these calls creates a trigger
+abbrev pub CreatesNone : List Called → Type 0
+CreatesNone [] = Unit {0}
+CreatesNone (call ∷ calls) = (new_trigger call ≡ None) × CreatesNone calls
+
+-- so does each trigger that is created among them, but the last one
+abbrev pub AllButLastRest : List Called → Type 0
+AllButLastRest [] = Unit {0}
+AllButLastRest (call ∷ calls) = ((id : ℕ) → new_trigger call ≡ Some id → RestsIn id calls ⊎ CreatesNone calls) × AllButLastRest calls
+
+-- It came to its last status, and has it in the end, or it was deleted since it came to it.
+pub record BecameFinal (made : Made) (last : History) (id : ℕ) : Type 0 where
+  pub before : History
+  pub since : History
+  pub longer : last ≡ before ++ since
+  pub final : IsFinalIn (world_of made before) id
+  pub stays : IsFinalIn (world_of made last) id ⊎ (list_any (deletes id) since ≡ true)
+
+-- In the history to which these calls lead it came to its last status; or one of its steps among them was refused.
 abbrev pub Settles : Made → History → ℕ → List Called → Type 0
-Settles made last id calls = IsFinalIn (world_of made last) id
-    ⊎ ((list_any (deletes id) last ≡ true) ⊎ (list_any (steps_so is_refusal id) calls ≡ true))
+Settles made last id calls = BecameFinal made last id ⊎ (list_any (steps_so is_refusal id) calls ≡ true)
 
 -- so is it with each trigger that is created among them
 abbrev pub AllSettle : Made → History → List Called → Type 0
 AllSettle made last [] = Unit {0}
 AllSettle made last (call ∷ calls) = ((id : ℕ) → new_trigger call ≡ Some id → Settles made last id calls) × AllSettle made last calls
+
+-- so is it with each of them but the last one
+abbrev pub AllButLastSettle : Made → History → List Called → Type 0
+AllButLastSettle made last [] = Unit {0}
+AllButLastSettle made last (call ∷ calls) =
+    ((id : ℕ) → new_trigger call ≡ Some id → Settles made last id calls ⊎ CreatesNone calls) × AllButLastSettle made last calls

@@ -104,13 +104,15 @@ pub record Broken (settings : Settings) (d : Doing) (after : Next) : Type 0 wher
   pub bytes : d.bytes ≡ front ++ part
   pub breaks : BreaksOff (asked_of settings.protocol head) (framing_of head.headers) part d.written after
 
--- a request that was read whole, with a body of as many bytes as are announced, and what passed since
+-- a request that was read whole, with a body of as many bytes as are announced, which are within the limit, and what
+-- passed since
 pub record Whole (settings : Settings) (asked : Asked) (head : HeadParts) (moment : ℕ) (inner d : Doing) : Type 0 where
   pub front : List ℕ
   pub content : List ℕ
   pub spells : Spells front head
   pub asks : asked_of settings.protocol head ≡ Some asked
   pub framed : framing_of head.headers ≡ framing.Length (length content)
+  pub within : length content ≤ BODY_LIMIT
   pub is : d ≡ record {
     bytes = front ++ content;
     moments = moment ∷ inner.moments;

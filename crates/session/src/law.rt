@@ -15,7 +15,7 @@ ghost use Rattle.session_base.specs.Doing.{Doing, Told};
 ghost use Rattle.session.specs.Ended.{AllEnded};
 ghost use Rattle.session.specs.Recorded.{AllRecorded};
 ghost use Rattle.session.specs.Session.{Session};
-ghost use Rattle.session.specs.Settled.{AllRest, AllSettle, NoStepStaysOpen, RestsIn};
+ghost use Rattle.session.specs.Settled.{AllButLastRest, AllButLastSettle, AllRest, AllSettle, NoStepStaysOpen, RestsIn};
 ghost use Rattle.trigger_command.specs.Spec.{SpecParts};
 ghost use Rattle.content_request.specs.Telling.{AllTellOf, BroughtNothing};
 ghost use Rattle.session_base.specs.declared.ending.Ending.{Ending};
@@ -90,20 +90,24 @@ pub fn a_thousand_answers_end_a_session()
 {}
 
 /// Each trigger that is created in a session makes its steps there until it has its last status or a step is refused: where it is
-/// deleted, another pass makes its steps, or a limit is reached. In the history to which the session leads it then has its last
-/// status, or it was deleted, or a step was refused; and no step finds the step before open, since each was ended. Only a session
-/// that ends for want of memory may have found none for a step of its last request's trigger.
+/// deleted, another pass makes its steps, or a limit is reached. In the history to which the session leads it then came to its last
+/// status, which it has unless it was deleted since; or a step was refused. No step finds the step before open, since each was
+/// ended. Only a session that ends for want of memory may have found none for a step of its last trigger, and of no other one.
 pub fn each_new_trigger_becomes_final()
     ensures steps { (settings : Settings) (spec : SpecParts) (manner : Manner) (d : Doing) (after : Next)
         → (trigger : Triggers settings spec manner d after)
         → trigger.last ≢ step.Memory → RestsIn trigger.id trigger.steps.calls }
     ensures rests { (settings : Settings) (place : Place) (d : Doing) (end : Ending)
         → Session settings place d end → end ≢ ending.Memory → AllRest d.calls }
+    ensures rests_before { (settings : Settings) (place : Place) (d : Doing) (end : Ending)
+        → Session settings place d end → AllButLastRest d.calls }
     ensures ended { (who : Who) (settings : Settings) (place : Place) (d : Doing) (end : Ending) (h last : History)
         → Session settings place d end → Told who h d.calls last → NoStepStaysOpen d.calls }
     ensures settles { (who : Who) (settings : Settings) (place : Place) (d : Doing) (end : Ending) (h last : History)
         → Session settings place d end → Told who h d.calls last → end ≢ ending.Memory
         → AllSettle who.made last d.calls }
+    ensures settles_before { (who : Who) (settings : Settings) (place : Place) (d : Doing) (end : Ending) (h last : History)
+        → Session settings place d end → Told who h d.calls last → AllButLastSettle who.made last d.calls }
 {
     a_final_trigger_stays_final();
     a_step_that_was_ended_is_not_open();

@@ -1,8 +1,8 @@
 //! One connection of a client: its requests are read, answered and entered, one after the other (RFC 9112).
 #![tactic(auto)]
 
+pub mod full_law;
 pub mod law;
-pub mod limit_law;
 mod serve;
 mod turn;
 

@@ -8,13 +8,13 @@ ghost use Rattle.session_base.specs.Doing.{Any, Does, Doing};
 ghost use Rattle.session.specs.Law.{KeepsTheLaw};
 ghost use Rattle.session.specs.Session.{Leaves, Session};
 
+use crate::full_law::a_reached_limit_is_answered;
 use crate::law::{
     a_bad_gateway_comes_of_nothing_else, a_fetch_that_brings_nothing_is_a_bad_gateway,
     a_request_for_content_is_answered_whole, a_thousand_answers_end_a_session,
     each_delivery_of_a_session_has_its_row, the_end_of_a_delivery_tells_what_was_written,
     what_is_opened_is_ended,
 };
-use crate::limit_law::a_reached_limit_is_answered;
 use crate::turn::serve_one;
 use edge_base::{Clock, Sink, Source};
 use http_wire::Inbox;

@@ -4,6 +4,7 @@
 
 mod gate;
 mod link;
+pub mod numbers;
 mod origin_source;
 mod pace;
 mod ready;

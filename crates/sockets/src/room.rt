@@ -1,7 +1,7 @@
 //! What was read ahead of a connection.
 
-ghost use Rattle.std.specs.Prelude.{◌≡◌, ◌-◌, ◌<◌, ◌≤◌, [], length, min, take, drop, IfOk, OnOk};
-ghost use Rattle.sockets.specs.Ready.{IsMoved};
+ghost use Rattle.std.specs.Prelude.{◌≡◌, ◌-◌, ◌<◌, ◌≤◌, ◌++◌, [], length, min, take, drop, IfOk, OnOk};
+ghost use Rattle.sockets.specs.Ready.{Fills, IsMoved};
 
 use crate::ready::{Moved, read_now, read_soon};
 use http_wire::HEAD_MAX;
@@ -67,10 +67,12 @@ impl Room {
         self.to = count;
     }
 
-    /// Moves bytes to the front of `buf`.
+    /// Moves bytes to the front of `buf`, the first of those that it has, and keeps the others.
     pub fn give(&mut self, buf: &mut [u8]) -> usize
         ensures count { result ≡ min (length buf.old) (length self.old) }
         ensures within { result ≤ length buf.new }
+        ensures given { buf.new ≡ take result self.old ++ drop result buf.old }
+        ensures kept { self.new ≡ drop result self.old }
     {
         let count = buf.len().min(self.to - self.from);
         buf[..count].copy_from_slice(&self.bytes[self.from..self.from + count]);
@@ -79,7 +81,9 @@ impl Room {
     }
 
     /// Reads once behind the bytes that are there; without waiting, or as long as the socket's own limit says.
-    pub fn fill(&mut self, stream: &TcpStream, soon: bool) -> Moved {
+    pub fn fill(&mut self, stream: &TcpStream, soon: bool) -> Moved
+        ensures { Fills self.old self.new result }
+    {
         self.settle();
         if self.to == self.bytes.len() {
             return Moved::Failed;
@@ -97,7 +101,9 @@ impl Room {
     }
 
     // moves the bytes to the front
-    fn settle(&mut self) {
+    fn settle(&mut self)
+        ensures { self.new ≡ self.old }
+    {
         if self.from > 0 {
             self.bytes.copy_within(self.from..self.to, 0);
             self.to -= self.from;

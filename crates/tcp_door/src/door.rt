@@ -1,6 +1,8 @@
 //! The door over TCP.
 
-ghost use Rattle.std.specs.Prelude.{◌≡◌, IfOk, Some};
+ghost use Rattle.std.specs.Prelude.{◌≡◌, ◌≤◌, IfOk, Some};
+ghost use Rattle.edge_base.specs.Causes.{Rose};
+ghost use Rattle.doors.specs.Door.{HaveNoFaults, IsFailed};
 
 use crate::sink::ClientSink;
 use crate::source::{Left, Run, SocketSource};
@@ -69,6 +71,46 @@ impl<W: Wait + Clock + Clone + Drop> TcpDoor<W> {
         ensures { result ≡ self.now.faults }
     {
         self.faults
+    }
+
+    /// The next connection, as `accept` gives it. Code that knows this door by its type, as a test of its sockets does, owes
+    /// no session for it.
+    pub fn next_client<R: Wait>(
+        &mut self,
+        rt: &R,
+        alloc: Global,
+    ) -> Accepted<SocketSource<W>, ClientSink<W>>
+        ensures fresh { HaveNoFaults (λ source. source.faults) (λ sink. sink.sink.faults) result }
+        ensures later { self.old.faults ≤ self.new.faults }
+        ensures cause { IsFailed result → Rose self.old.faults self.new.faults }
+    {
+        let mut room = match self.room.take() {
+            Some(room) => room,
+            None => match Room::new(alloc) {
+                Ok(room) => room,
+                Err(_) => return Accepted::Memory,
+            },
+        };
+        let Some(taken) = self.wait(rt, alloc, &mut room) else {
+            self.faults = self.faults.saturating_add(1);
+            return Accepted::Failed;
+        };
+        let (ip, token) = (taken.ip, taken.token);
+        match self.ends(alloc, taken, room) {
+            Ok((source, sink)) => Accepted::One { ip, source, sink },
+            Err(_) => {
+                self.hub.forget(&self.rt, token);
+                Accepted::Memory
+            }
+        }
+    }
+
+    /// Closes a connection, as `close` does, or parks it.
+    pub fn close_client(&mut self, source: SocketSource<W>, sink: ClientSink<W>)
+        ensures later { self.old.faults ≤ self.new.faults }
+    {
+        let room = self.shut(source, sink);
+        self.room = Some(room);
     }
 
     // waits for the next connection; none where the listener is broken
@@ -193,29 +235,10 @@ impl<W: Wait + Clock + Clone + Send + Drop> Door for TcpDoor<W> {
         rt: &R,
         alloc: Global,
     ) -> Accepted<SocketSource<W>, ClientSink<W>> {
-        let mut room = match self.room.take() {
-            Some(room) => room,
-            None => match Room::new(alloc) {
-                Ok(room) => room,
-                Err(_) => return Accepted::Memory,
-            },
-        };
-        let Some(taken) = self.wait(rt, alloc, &mut room) else {
-            self.faults = self.faults.saturating_add(1);
-            return Accepted::Failed;
-        };
-        let (ip, token) = (taken.ip, taken.token);
-        match self.ends(alloc, taken, room) {
-            Ok((source, sink)) => Accepted::One { ip, source, sink },
-            Err(_) => {
-                self.hub.forget(&self.rt, token);
-                Accepted::Memory
-            }
-        }
+        self.next_client(rt, alloc)
     }
 
     fn close(&mut self, source: SocketSource<W>, sink: ClientSink<W>) {
-        let room = self.shut(source, sink);
-        self.room = Some(room);
+        self.close_client(source, sink);
     }
 }

@@ -1,12 +1,14 @@
 -- What a worker of a crew does.
 use Rattle.std.proofs.Common.{◌≡◌, ℕ, zero, suc, ◌+◌, ◌<◌, ◌≤◌, List, [], ◌∷◌, ◌++◌, All, length, get_or, map, None, Some, refl, sym, ◌∙◌, ap, subst, arith}
 use Rattle.std.proofs.lemmas.List.Elements.{All-nil, All-cons}
-use Rattle.std.specs.List.{flat_map}
+use Rattle.std.specs.List.{flat_map, slice_index_or}
 use Rattle.std.specs.declared.option.Option.{Option}
 use Rattle.atomic_table.specs.Seated.{TableId}
 use Rattle.doors.specs.Door.{Book}
 use Rattle.doors.specs.Outside.{HasPassedNothing, IsAllOf, IsNew, Tellings}
+use Rattle.doors.specs.Served.{HasServedAll}
 use Rattle.doors.specs.Visit.{Visit, Visited, calls_of, passed_of}
+use Rattle.doors.proofs.ServedLemmas.{none_passed}
 use Rattle.edge_base.specs.Clock.{Grows}
 use Rattle.history.specs.Event.{History}
 use Rattle.history.specs.World.{Made}
@@ -96,3 +98,12 @@ as_many by crew table passes number (post ∷ posts) (shift ∷ shifts) done = a
 pub all_new : (table : TableId) (passes number : ℕ) (posts : List Post) → ReadyFrom table passes number posts → All IsNew (map (λ post. post.tells) posts)
 all_new table passes number [] ready = All-nil IsNew
 all_new table passes number (post ∷ posts) ready = All-cons IsNew post.tells (map (λ post. post.tells) posts) ready.0.fresh (all_new table passes (number + 1) posts ready.1)
+
+-- at the door of a worker that has not begun nothing waits to be served
+at_rest : {A : Type 0} (f : A → Post) (table : TableId) (passes number : ℕ) (jobs : List A) → ReadyFrom table passes number (map f jobs) → (i : ℕ) (d : A) → i < length jobs → HasServedAll (f (slice_index_or jobs i d)).tells.book
+at_rest f table passes number [] ready i d below = absurd (omega (arith, below))
+at_rest f table passes number (job ∷ jobs) ready zero d below = none_passed (f job).tells.book ready.0.fresh.book
+at_rest f table passes number (job ∷ jobs) ready (suc i) d below = at_rest f table passes (number + 1) jobs ready.1 i d (omega (arith, below))
+
+pub all_at_rest : {A : Type 0} (f : A → Post) (table : TableId) (passes : ℕ) (items olds : List A) → olds ≡ items → ReadyFrom table passes 0 (map f items) → (i : ℕ) (d : A) → i < length olds → HasServedAll (f (slice_index_or olds i d)).tells.book
+all_at_rest f table passes items olds same ready i d = subst (λ (l : List _). i < length l → HasServedAll (f (slice_index_or l i d)).tells.book) (sym same) (at_rest f table passes 0 items ready i d)

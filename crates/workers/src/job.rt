@@ -2,6 +2,7 @@
 
 ghost use Rattle.std.specs.Prelude.{◌≡◌, ◌<◌, ℕ, length, map, slice_index_or};
 ghost use Rattle.doors.specs.Outside.{tells_of};
+ghost use Rattle.doors.specs.Served.{HasServedAll};
 ghost use Rattle.workers.specs.Job.{AllWorked, Worked, post_of};
 
 use crate::crew::Crew;
@@ -25,7 +26,8 @@ pub(crate) struct Job<'c, J: MadeWith, D, G, C> {
     pub end: DoorEnd,
 }
 
-// serves the doors of all workers, each in a thread of its own; where no thread can be made, one after the other
+// serves the doors of all workers, at which nothing waits to be served, each in a thread of its own; where no thread can be
+// made, one after the other
 pub(crate) fn serve_jobs<
     R: Threads + Wait + Sync,
     J: MadeWith + Send + Sync,
@@ -33,6 +35,8 @@ pub(crate) fn serve_jobs<
     G: Gate + Send,
     C: Clock + Send,
 >(rt: &R, alloc: Global, jobs: &mut [Job<'_, J, D, G, C>], crew: &Crew)
+    requires rest { (i : ℕ) (d : _) → i < length jobs.old
+        → HasServedAll (post_of (tells_of D.book D.faults G.exchanges C.given) (slice_index_or jobs.old i d)).tells.book }
     ensures len { length jobs.new ≡ length jobs.old }
     ensures each { (i : ℕ) (d : _) → i < length jobs.old → Worked J.made crew.now
         (post_of (tells_of D.book D.faults G.exchanges C.given) (slice_index_or jobs.old i d))
@@ -43,6 +47,7 @@ pub(crate) fn serve_jobs<
         jobs,
         MOST_THREADS,
         &|_, job: &mut Job<J, D, G, C>|
+            requires { HasServedAll (post_of (tells_of D.book D.faults G.exchanges C.given) job.old).tells.book }
             ensures { Worked J.made crew.entry.now (post_of (tells_of D.book D.faults G.exchanges C.given) job.old)
                 (post_of (tells_of D.book D.faults G.exchanges C.given) job.new) }
         {
@@ -59,6 +64,7 @@ fn serve_job<
     G: Gate + Send,
     C: Clock + Send,
 >(rt: &R, alloc: Global, job: &mut Job<'_, J, D, G, C>, crew: &Crew)
+    requires { HasServedAll (post_of (tells_of D.book D.faults G.exchanges C.given) job.old).tells.book }
     ensures { Worked J.made crew.now (post_of (tells_of D.book D.faults G.exchanges C.given) job.old)
         (post_of (tells_of D.book D.faults G.exchanges C.given) job.new) }
 {

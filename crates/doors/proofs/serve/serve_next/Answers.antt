@@ -1,5 +1,21 @@
+use Rattle.doors.proofs.ServedLemmas.{at_closed, at_failed, at_given, at_memory}
 use Rattle.doors.proofs.VisitLemmas.{failed, no_memory, none_left, one_visit}
 use Rattle.doors.proofs.serve.serve_next.Goals as goal
+
+pub accept-requires : goal.accept-requires
+accept-requires g c = c.requires
+
+pub serve_given-requires-clause-last : goal.serve_given-requires-clause-last
+serve_given-requires-clause-last g c κs within = at_given (g.D.Door.book c.args.worker.now.door) (g.D.Door.book c.accept.new.self) _ c.in-One.ensures.book c.requires
+
+pub returns-in-Closed-clause-served : goal.returns-in-Closed-clause-served
+returns-in-Closed-clause-served g c = at_closed (g.D.Door.book c.args.worker.now.door) (g.D.Door.book c.accept.new.self) c.in-Closed.ensures.book c.requires
+
+pub returns-in-Failed-clause-served : goal.returns-in-Failed-clause-served
+returns-in-Failed-clause-served g c = at_failed (g.D.Door.book c.args.worker.now.door) (g.D.Door.book c.accept.new.self) c.in-Failed.ensures.book c.requires
+
+pub returns-in-Memory-clause-served : goal.returns-in-Memory-clause-served
+returns-in-Memory-clause-served g c = at_memory (g.D.Door.book c.args.worker.now.door) (g.D.Door.book c.accept.new.self) c.in-Memory.ensures.book c.requires
 
 pub returns-in-One-clause-visits : goal.returns-in-One-clause-visits
 returns-in-One-clause-visits g c =

@@ -14,7 +14,7 @@ returns-in-Body-clause-does g c = λ front spells.
     let rest = c.serve_whole.ensures.does in
     let answers = subst (λ (x : List ℕ). Answers c.args.settings.now c.args.place c.in-Ok-Some.asked x c.in-Ok-Some.manner rest.0 c.serve_whole.result) c.bytes.ensures rest.1 in
     served front c.in-Body.body _ _ _ _ _ _ _ _ _ _ _ _ _ _ c.args.settings.now c.args.place c.args.last c.args.head.now clock.0 c.in-Ok-Some.asked c.in-Ok-Some.manner c.serve_whole.result rest.0 spells read.0
-    (manner_at c.args.head.now _ clock.0 c.args.last c.in-Ok-Some.manner read.1 clock.2) whole.0 clock.1 whole.1 answers rest.2
+    (manner_at c.args.head.now _ clock.0 c.args.last c.in-Ok-Some.manner read.1 clock.2) whole.0 whole.2 clock.1 whole.1 answers rest.2
 
 pub returns-in-Coded-clause-does : goal.returns-in-Coded-clause-does
 returns-in-Coded-clause-does g c = λ front spells.

@@ -1,5 +1,5 @@
 use Rattle.session.proofs.FullLemmas.{content_full, content_only, full_control, only_control}
-use Rattle.session.proofs.limit_law.a_reached_limit_is_answered.Goals as goal
+use Rattle.session.proofs.full_law.a_reached_limit_is_answered.Goals as goal
 
 pub returns-clause-content : goal.returns-clause-content
 returns-clause-content c = content_full

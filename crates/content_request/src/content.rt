@@ -44,6 +44,7 @@ pub fn content<R: Threads + Wait + Sync, H: Home, K: Sink, G: Gate, C: Clock>(
     ensures does { (d : Doing) × (content : Content root.now asked place manner.now d result)
         × HasGateFault (G.faults gate.old) (G.faults gate.new) content.course × Does (H.who home.old) Any (H.has_seen home.old) (H.has_seen home.new) (C.given clock.old) (C.given clock.new)
         (G.exchanges gate.old) (G.exchanges gate.new) (K.held sink.old) (K.held sink.new) d }
+    ensures gate { G.faults gate.old ≤ G.faults gate.new }
     ensures later { K.faults sink.old ≤ K.faults sink.new }
     ensures write { result ≡ Next.Stops Ending.WriteFault → Rose (K.faults sink.old) (K.faults sink.new) }
 {
@@ -80,6 +81,7 @@ fn deliver<R: Threads + Wait + Sync, H: Home, K: Sink, G: Gate, C: Clock>(
     ensures does { (d : Doing) × (course : Course) × Follows Refreshed.Ready course × Delivers asked place manner.now course d result
         × HasGateFault (G.faults gate.old) (G.faults gate.new) course × Does (H.who home.old) Any (H.has_seen home.old) (H.has_seen home.new) (C.given clock.old) (C.given clock.new)
         (G.exchanges gate.old) (G.exchanges gate.new) (K.held sink.old) (K.held sink.new) d }
+    ensures gate { G.faults gate.old ≤ G.faults gate.new }
     ensures later { K.faults sink.old ≤ K.faults sink.new }
     ensures write { result ≡ Next.Stops Ending.WriteFault → Rose (K.faults sink.old) (K.faults sink.new) }
 {

@@ -1,5 +1,5 @@
 -- Which calls are made in a request of the upstream CDN.
-use Rattle.std.proofs.Common.{◌≡◌, ℕ, Bool, List, [], ◌∷◌, ◌++◌, refl, sym, subst, None, Some, Option, inl, inr}
+use Rattle.std.proofs.Common.{◌≡◌, ℕ, Bool, arith, false, List, [], ◌∷◌, ◌++◌, refl, sym, subst, None, Some, Option, inl, inr}
 use Rattle.std.proofs.lemmas.Option.{none-some, same_Some}
 use Rattle.cdni_base.specs.declared.asked.Asked.{Asked}
 use Rattle.control_table.specs.declared.ask.ControlAsk.{ControlAsk}
@@ -10,6 +10,7 @@ use Rattle.history.specs.declared.reply.Reply.{Reply}
 use Rattle.history.specs.declared.reply.Reply.TheVariants as reply
 use Rattle.metadata_objects.specs.Tree.{TreeData}
 use Rattle.session_base.specs.Doing.{Called as OneCall, Doing, nothing, then}
+use Rattle.session_base.specs.GateFaults.{CountsFaults, ends_failed}
 use Rattle.session_base.specs.Moment.{capped}
 use Rattle.session_base.specs.declared.ending.Next.{Next}
 use Rattle.session_base.specs.declared.manner.Manner.{Manner}
@@ -19,6 +20,7 @@ use Rattle.targets.specs.declared.target.Target.{Target}
 use Rattle.trigger_command.specs.declared.command.Act.{Act}
 use Rattle.trigger_command.specs.declared.command.Act.TheVariants as act
 use Rattle.upstream_gate.specs.declared.outcome.Outcome.{Outcome}
+use Rattle.session_base.proofs.GateFaultLemmas.{counts_as, counts_none, counts_other}
 use Rattle.control_request.specs.Advance.{AdvanceStep, Behind, Steps, advanced}
 use Rattle.control_request.specs.Control.{Course, NoRoom, Uncalled, Replied, Controls, Acts, Commands, Serves, IsActed, IsRead, IsRefused, course_calls, event_at}
 use Rattle.control_request.specs.declared.advance.Step.{Step}
@@ -42,7 +44,7 @@ IsControlEvent (LogFile number) = Unit {0}
 IsControlEvent ListLogs = Unit {0}
 IsControlEvent (DropLog number) = Unit {0}
 
-event_read : (which : ControlAsk) (moment : ℕ) (event : Event) → event_at which moment ≡ Some event → IsControlEvent event
+pub event_read : (which : ControlAsk) (moment : ℕ) (event : Event) → event_at which moment ≡ Some event → IsControlEvent event
 event_read ask.Absent moment event is = absurd (none-some _ is)
 event_read ask.WrongMethod moment event is = absurd (none-some _ is)
 event_read ask.Command moment event is = absurd (none-some _ is)
@@ -55,9 +57,37 @@ event_read ask.ListLogs moment event is = subst IsControlEvent (same_Some _ _ is
 event_read (ask.ReadLog number) moment event is = subst IsControlEvent (same_Some _ _ is) tt
 event_read (ask.DropLog number) moment event is = subst IsControlEvent (same_Some _ _ is) tt
 
-event_acted : (given : Act) (moment : ℕ) (event : Event) (line : Reply) (short : Bool) → IsActed given moment (Replied event line short) → IsControlEvent event
+pub event_acted : (given : Act) (moment : ℕ) (event : Event) (line : Reply) (short : Bool) → IsActed given moment (Replied event line short) → IsControlEvent event
 event_acted (act.Cancel ids) moment event line short is = subst IsControlEvent (sym is) tt
 event_acted (act.Trigger spec) moment event line short (is, count, full) = subst IsControlEvent (sym is) tt
+
+-- it ends no fetch
+ends_none : (event : Event) → IsControlEvent event → ends_failed event ≡ false
+ends_none (Admit asked place moment) is = refl
+ends_none (FetchEnd fetch outcome moment) is = absurd is
+ends_none (Finish delivery status total entity moment) is = refl
+ends_none (RefreshBegin moment) is = refl
+ends_none (RefreshEnd refresh tree moment) is = refl
+ends_none (Command spec moment) is = refl
+ends_none (Advance id moment) is = refl
+ends_none (Cancel ids moment) is = refl
+ends_none (Delete id) is = refl
+ends_none (ReadStatus id) is = refl
+ends_none (Lists filter) is = refl
+ends_none (Cut moment) is = refl
+ends_none (LogFile number) is = refl
+ends_none ListLogs is = refl
+ends_none (DropLog number) is = refl
+
+course_counts : (IsRight : Course → Type 0) → ((event : Event) (line : Reply) (short : Bool) → IsRight (Replied event line short) → IsControlEvent event) → (f : ℕ) (course : Course) → IsRight course → CountsFaults f f (course_calls course)
+course_counts IsRight sound f NoRoom right = counts_none f
+course_counts IsRight sound f (Uncalled given) right = counts_none f
+course_counts IsRight sound f (Replied event line short) right = counts_other f f (event, line) (omega arith) (ends_none event (sound event line short right))
+
+-- a request of one call at most, in which no gate is asked
+pub controls_count : (IsRight : Course → Type 0) → ((event : Event) (line : Reply) (short : Bool) → IsRight (Replied event line short) → IsControlEvent event) → (settings : Settings) (manner : Manner) (f : ℕ) (d : Doing) (after : Next) → Controls IsRight settings manner d after
+    → CountsFaults f f d.calls
+controls_count IsRight sound settings manner f d after c = counts_as f f (course_calls c.course) d.calls c.calls (course_counts IsRight sound f c.course c.right)
 
 -- what holds of no call, of calls after calls, of the one call of a request, of a step that begins nothing, and of one with the end of what it begins, holds of all calls of a request
 module _ (P : List OneCall → Type 0) (none : P []) (both : (calls more : List OneCall) → P calls → P more → P (calls ++ more))

@@ -1,5 +1,5 @@
 -- What passes in a request of the upstream CDN.
-use Rattle.std.proofs.Common.{◌≡◌, ◌≢◌, ℕ, Bool, true, false, List, [], ◌∷◌, refl, sym, ◌∙◌, ap, subst, None, Some, Ok, Err, Option, Result, IfOk, is_none, inl, inr, IsTrue}
+use Rattle.std.proofs.Common.{◌≡◌, ◌≢◌, ℕ, Bool, arith, true, false, List, [], ◌∷◌, refl, sym, ◌∙◌, ap, subst, None, Some, Ok, Err, Option, Result, IfOk, is_none, inl, inr, IsTrue}
 use Rattle.std.specs.Prelude.{IfSome}
 use Rattle.std.specs.Option.{option_map_or}
 use Rattle.std.specs.Result.{result_ok}
@@ -19,6 +19,7 @@ use Rattle.session_base.specs.Answer.{Answer, Says, IsConstant}
 use Rattle.session_base.specs.Content.{IsShown, control_shown, full_shown}
 use Rattle.session_base.specs.Doing.{Called as OneCall, Doing, nothing, Makes, Any, Does}
 use Rattle.session_base.specs.Ending.{next_of}
+use Rattle.session_base.specs.GateFaults.{CountsFaults}
 use Rattle.session_base.specs.declared.constant.Constant.TheVariants as constant
 use Rattle.session_base.specs.declared.control_answer.ControlAnswer.{ControlAnswer}
 use Rattle.session_base.specs.declared.ending.Ending.TheVariants as ending
@@ -28,6 +29,7 @@ use Rattle.session_base.specs.declared.manner.Manner.{Manner}
 use Rattle.session_base.specs.declared.send.Sent.{Sent}
 use Rattle.session_base.specs.declared.settings.Settings.{Settings}
 use Rattle.session_base.proofs.DoingLemmas.{made_as, makes_none, makes_then}
+use Rattle.session_base.proofs.GateFaultLemmas.{counts_other, counts_then}
 use Rattle.trigger_command.specs.Reading.{Fails, command_of}
 use Rattle.trigger_command.specs.Spec.{SpecParts}
 use Rattle.trigger_command.specs.declared.command.Act.{Act}
@@ -43,10 +45,15 @@ use Rattle.control_request.specs.Control.{Course, NoRoom, Uncalled, Replied, Con
 use Rattle.control_request.specs.declared.advance.Step.{Step}
 use Rattle.control_request.specs.declared.advance.Step.TheVariants as step
 use Rattle.control_request.proofs.AdvanceLemmas.{Passes}
+use Rattle.control_request.proofs.CallLemmas.{controls_count, event_acted, event_read}
 
 -- what is told of a request, or of a part of one
 abbrev pub Done : (Doing → Type 0) → Who → (History → Type 0) → (History → Type 0) → Option (List ℕ) → Option (List ℕ) → Option (List Exchange) → Option (List Exchange) → Option (List ℕ) → Option (List ℕ) → Type 0
 Done Is who a b g g' t t' k k' = (d : Doing) × Is d × Does who Any a b g g' t t' k k' d
+
+-- and of the gate's count of faults
+abbrev pub Counted : (Doing → Type 0) → Who → (History → Type 0) → (History → Type 0) → Option (List ℕ) → Option (List ℕ) → Option (List Exchange) → Option (List Exchange) → ℕ → ℕ → Option (List ℕ) → Option (List ℕ) → Type 0
+Counted Is who a b g g' t t' f f' k k' = (d : Doing) × Is d × Does who Any a b g g' t t' k k' d × CountsFaults f f' d.calls
 
 -- a request of one call at most
 pub controlled : (IsRight : Course → Type 0) (settings : Settings) (manner : Manner) (who : Who) (a b : History → Type 0) (g : Option (List ℕ)) (t : Option (List Exchange)) (k k' : Option (List ℕ)) (sent : Sent) (Is : Answer → Type 0) (course : Course) (after : Next)
@@ -127,11 +134,11 @@ not_memory (fault.BadUrl index) reading other fails = fails
 not_memory (fault.BadPattern index) reading other fails = fails
 
 -- a new trigger was made, told and brought to its end
-pub triggered : (settings : Settings) (spec : SpecParts) (manner : Manner) (who : Who) (a b c : History → Type 0) (g g' : Option (List ℕ)) (t t' : Option (List Exchange)) (k k' : Option (List ℕ)) (id : ℕ) (sent : Sent) (short : Bool) (last : Step) (after : Next)
-    → Says (IsCreated settings manner id spec short) k k' sent → Makes who Any a b ((Command spec manner.moment, reply.Created id) ∷ []) → (v : Who) → v ≡ who → Passes (λ d. Advances settings.root id d last) v Any b c g g' t t'
-    → after ≡ next_behind last (next_of manner.leaves short sent.fault) → Done (λ d. Acts settings (act.Trigger spec) manner d after) who a c g g' t t' k k'
-triggered settings spec manner who a b c g g' t t' k k' id sent short last after s makes v same there goes =
-    let p = subst (λ (w : Who). Passes (λ d. Advances settings.root id d last) w Any b c g g' t t') same there in
+pub triggered : (settings : Settings) (spec : SpecParts) (manner : Manner) (who : Who) (a b c : History → Type 0) (g g' : Option (List ℕ)) (t t' : Option (List Exchange)) (f f' : ℕ) (k k' : Option (List ℕ)) (id : ℕ) (sent : Sent) (short : Bool) (last : Step) (after : Next)
+    → Says (IsCreated settings manner id spec short) k k' sent → Makes who Any a b ((Command spec manner.moment, reply.Created id) ∷ []) → (v : Who) → v ≡ who → Passes (λ d. Advances settings.root id d last) v Any b c g g' t t' f f'
+    → after ≡ next_behind last (next_of manner.leaves short sent.fault) → Counted (λ d. Acts settings (act.Trigger spec) manner d after) who a c g g' t t' f f' k k'
+triggered settings spec manner who a b c g g' t t' f f' k k' id sent short last after s makes v same there goes =
+    let p = subst (λ (w : Who). Passes (λ d. Advances settings.root id d last) w Any b c g g' t t' f f') same there in
     let first : OneCall = (Command spec manner.moment, reply.Created id) in (
       record { bytes = []; moments = p.0.moments; exchanges = p.0.exchanges; written = s.written; calls = first ∷ p.0.calls },
       inr (record {
@@ -156,6 +163,7 @@ triggered settings spec manner who a b c g g' t t' k k' id sent short last after
         written = s.put;
         calls = makes_then who Any Any a b c (first ∷ []) p.0.calls makes p.2.calls (λ h x need told. tt);
       },
+      counts_then f f f' (first ∷ []) p.0.calls (counts_other f f first (omega arith) refl) p.3,
     )
 
 -- the answer to a new trigger
@@ -220,11 +228,12 @@ write_fault true false false is = cc
 write_fault false false false is = cc
 
 -- a command of one call at most
-pub acted : (settings : Settings) (given : Act) (manner : Manner) (who : Who) (a b : History → Type 0) (g : Option (List ℕ)) (t : Option (List Exchange)) (k k' : Option (List ℕ)) (sent : Sent) (Is : Answer → Type 0) (course : Course) (after : Next)
+pub acted : (settings : Settings) (given : Act) (manner : Manner) (who : Who) (a b : History → Type 0) (g : Option (List ℕ)) (t : Option (List Exchange)) (f : ℕ) (k k' : Option (List ℕ)) (sent : Sent) (Is : Answer → Type 0) (course : Course) (after : Next)
     → IsActed given manner.moment course → Says Is k k' sent → ((answer : Answer) → Is answer → IsAnswerOf settings manner course answer) → Makes who Any a b (course_calls course) → after ≡ next_of manner.leaves (is_short course) sent.fault
-    → Done (λ d. Acts settings given manner d after) who a b g g t t k k'
-acted settings given manner who a b g t k k' sent Is course after right s answers makes goes =
-    let c = controlled (IsActed given manner.moment) settings manner who a b g t k k' sent Is course after right s answers makes goes in (c.0, inl c.1, c.2)
+    → Counted (λ d. Acts settings given manner d after) who a b g g t t f f k k'
+acted settings given manner who a b g t f k k' sent Is course after right s answers makes goes =
+    let c = controlled (IsActed given manner.moment) settings manner who a b g t k k' sent Is course after right s answers makes goes in
+    (c.0, inl c.1, c.2, controls_count (IsActed given manner.moment) (λ event line short is. event_acted given manner.moment event line short is) settings manner f c.0 after c.1)
 
 -- the call that makes a trigger
 pub command_made : (who : Who) (a b : History → Type 0) (spec given : SpecParts) (moment : ℕ) (r s : Reply) → r ≡ s → given ≡ spec → ((h : History) → a h → IsAnswered who h (Command given moment) r b) → Makes who Any a b ((Command spec moment, s) ∷ [])
@@ -252,13 +261,15 @@ pub uncalled_right : (settings : Settings) (which : ControlAsk) (moment : ℕ) (
 uncalled_right settings which moment None none right = tt
 uncalled_right settings which moment (Some answer) none right = (none, right)
 
-pub commands_first : (settings : Settings) (body : List ℕ) (manner : Manner) (who : Who) (a b : History → Type 0) (g g' : Option (List ℕ)) (t t' : Option (List Exchange)) (k k' : Option (List ℕ)) (after : Next)
-    → Done (λ d. Controls (IsRefused settings body) settings manner d after) who a b g g' t t' k k' → Done (λ d. Commands settings body manner d after) who a b g g' t t' k k'
-commands_first settings body manner who a b g g' t t' k k' after c = (c.0, inl c.1, c.2)
+pub commands_first : (settings : Settings) (body : List ℕ) (manner : Manner) (who : Who) (a b : History → Type 0) (g g' : Option (List ℕ)) (t t' : Option (List Exchange)) (f : ℕ) (k k' : Option (List ℕ)) (after : Next)
+    → Done (λ d. Controls (IsRefused settings body) settings manner d after) who a b g g' t t' k k' → Counted (λ d. Commands settings body manner d after) who a b g g' t t' f f k k'
+commands_first settings body manner who a b g g' t t' f k k' after c =
+    (c.0, inl c.1, c.2, controls_count (IsRefused settings body) (λ event line short is. absurd is) settings manner f c.0 after c.1)
 
-pub reads : (settings : Settings) (asked : Asked) (body : List ℕ) (manner : Manner) (which : ControlAsk) (who : Who) (a b : History → Type 0) (g g' : Option (List ℕ)) (t t' : Option (List Exchange)) (k k' : Option (List ℕ)) (after : Next) → IsAskedAt asked.method asked.target.path which → which ≢ ask.Command
-    → Done (λ d. Controls (IsRead settings which manner.moment) settings manner d after) who a b g g' t t' k k' → Done (λ d. Serves settings asked body manner d after) who a b g g' t t' k k'
-reads settings asked body manner which who a b g g' t t' k k' after asks other c = (c.0, (which, asks, inr (other, c.1)), c.2)
+pub reads : (settings : Settings) (asked : Asked) (body : List ℕ) (manner : Manner) (which : ControlAsk) (who : Who) (a b : History → Type 0) (g g' : Option (List ℕ)) (t t' : Option (List Exchange)) (f : ℕ) (k k' : Option (List ℕ)) (after : Next) → IsAskedAt asked.method asked.target.path which → which ≢ ask.Command
+    → Done (λ d. Controls (IsRead settings which manner.moment) settings manner d after) who a b g g' t t' k k' → Counted (λ d. Serves settings asked body manner d after) who a b g g' t t' f f k k'
+reads settings asked body manner which who a b g g' t t' f k k' after asks other c =
+    (c.0, (which, asks, inr (other, c.1)), c.2, controls_count (IsRead settings which manner.moment) (λ event line short is. event_read which manner.moment event is) settings manner f c.0 after c.1)
 
 pub asked_as : (method given path here : List ℕ) (which : ControlAsk) → given ≡ method → here ≡ path → IsAskedAt given here which → IsAskedAt method path which
 asked_as method given path here which m p asks = subst (λ (x : List ℕ). IsAskedAt method x which) p (subst (λ (x : List ℕ). IsAskedAt x here which) m asks)

@@ -4,6 +4,7 @@ ghost use Rattle.std.specs.Prelude.{◌≡◌, ◌≤◌, None};
 ghost use Rattle.control_request.specs.Advance.{AdvanceStep, Advances, FetchesFor, RefreshesFor, step_after};
 ghost use Rattle.control_request.specs.Told.{IsToldOf};
 ghost use Rattle.session_base.specs.Doing.{Any, Does, Doing};
+ghost use Rattle.session_base.specs.GateFaults.{CountsFaults};
 ghost use Rattle.session_base.specs.Open.{OpenFetch, OpenRefresh};
 
 use cdni_base::{EndpointList, Target};
@@ -46,7 +47,8 @@ pub fn advance_all<R: Threads + Wait + Sync, H: Home, K: Sink, G: Gate, C: Clock
     ensures stays { H.stays home.old home.new }
     ensures does { (d : Doing) × Advances settings.now.root id d result
         × Does (H.who home.old) Any (H.has_seen home.old) (H.has_seen home.new) (C.given clock.old) (C.given clock.new)
-        (G.exchanges gate.old) (G.exchanges gate.new) None None d }
+        (G.exchanges gate.old) (G.exchanges gate.new) None None d
+        × CountsFaults (G.faults gate.old) (G.faults gate.new) d.calls }
     ensures later { G.faults gate.old ≤ G.faults gate.new }
 {
     'steps: for _ in rt.forever() {
@@ -73,7 +75,8 @@ fn advance_once<R: Threads + Wait + Sync, H: Home, G: Gate, C: Clock>(
     ensures stays { H.stays home.old home.new }
     ensures does { (d : Doing) × AdvanceStep root.now id d result
         × Does (H.who home.old) Any (H.has_seen home.old) (H.has_seen home.new) (C.given clock.old) (C.given clock.new)
-        (G.exchanges gate.old) (G.exchanges gate.new) None None d }
+        (G.exchanges gate.old) (G.exchanges gate.new) None None d
+        × CountsFaults (G.faults gate.old) (G.faults gate.new) d.calls }
     ensures later { G.faults gate.old ≤ G.faults gate.new }
 {
     let moment = read_clock(clock);
@@ -113,7 +116,8 @@ fn fetch_for<R: Threads + Wait + Sync, H: Home, G: Gate, C: Clock>(
     ensures stays { H.stays home.old home.new }
     ensures does { (d : Doing) × FetchesFor fetch plan.now target.now d result
         × Does (H.who home.old) (OpenFetch (H.who home.old) fetch) (H.has_seen home.old) (H.has_seen home.new)
-        (C.given clock.old) (C.given clock.new) (G.exchanges gate.old) (G.exchanges gate.new) None None d }
+        (C.given clock.old) (C.given clock.new) (G.exchanges gate.old) (G.exchanges gate.new) None None d
+        × CountsFaults (G.faults gate.old) (G.faults gate.new) d.calls }
     ensures later { G.faults gate.old ≤ G.faults gate.new }
 {
     let outcome = ask(alloc, gate, plan, target);
@@ -146,7 +150,8 @@ fn refresh_for<R: Threads + Wait + Sync, H: Home, G: Gate, C: Clock>(
     ensures stays { H.stays home.old home.new }
     ensures does { (d : Doing) × RefreshesFor root.now refresh d result
         × Does (H.who home.old) (OpenRefresh (H.who home.old) refresh) (H.has_seen home.old) (H.has_seen home.new)
-        (C.given clock.old) (C.given clock.new) (G.exchanges gate.old) (G.exchanges gate.new) None None d }
+        (C.given clock.old) (C.given clock.new) (G.exchanges gate.old) (G.exchanges gate.new) None None d
+        × CountsFaults (G.faults gate.old) (G.faults gate.new) d.calls }
     ensures later { G.faults gate.old ≤ G.faults gate.new }
 {
     match gather(alloc, gate, root) {

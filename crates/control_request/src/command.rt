@@ -9,6 +9,7 @@ ghost use Rattle.control_request.specs.Answer.{IsMadeWith, created};
 ghost use Rattle.control_request.specs.Control.{Acts, Commands, IsCreated, next_behind};
 ghost use Rattle.session_base.specs.Answer.{Says};
 ghost use Rattle.session_base.specs.Doing.{Any, Does, Doing};
+ghost use Rattle.session_base.specs.GateFaults.{CountsFaults};
 ghost use Rattle.trigger_command.specs.Spec.{SpecParts};
 
 use crate::advance::{Step, advance_all};
@@ -45,7 +46,8 @@ pub(crate) fn command<R: Threads + Wait + Sync, H: Home, K: Sink, G: Gate, C: Cl
     ensures stays { H.stays home.old home.new }
     ensures does { (d : Doing) × Commands settings.now body.now manner.now d result
         × Does (H.who home.old) Any (H.has_seen home.old) (H.has_seen home.new) (C.given clock.old) (C.given clock.new)
-        (G.exchanges gate.old) (G.exchanges gate.new) (K.held sink.old) (K.held sink.new) d }
+        (G.exchanges gate.old) (G.exchanges gate.new) (K.held sink.old) (K.held sink.new) d
+        × CountsFaults (G.faults gate.old) (G.faults gate.new) d.calls }
     ensures later { K.faults sink.old ≤ K.faults sink.new }
     ensures write { result ≡ Next.Stops Ending.WriteFault → Rose (K.faults sink.old) (K.faults sink.new) }
 {
@@ -98,7 +100,8 @@ fn act<R: Threads + Wait + Sync, H: Home, K: Sink, G: Gate, C: Clock>(
     ensures stays { H.stays home.old home.new }
     ensures does { (d : Doing) × Acts settings.now act manner.now d result
         × Does (H.who home.old) Any (H.has_seen home.old) (H.has_seen home.new) (C.given clock.old) (C.given clock.new)
-        (G.exchanges gate.old) (G.exchanges gate.new) (K.held sink.old) (K.held sink.new) d }
+        (G.exchanges gate.old) (G.exchanges gate.new) (K.held sink.old) (K.held sink.new) d
+        × CountsFaults (G.faults gate.old) (G.faults gate.new) d.calls }
     ensures later { K.faults sink.old ≤ K.faults sink.new }
     ensures write { result ≡ Next.Stops Ending.WriteFault → Rose (K.faults sink.old) (K.faults sink.new) }
 {
@@ -134,7 +137,8 @@ fn trigger<R: Threads + Wait + Sync, H: Home, K: Sink, G: Gate, C: Clock>(
     ensures stays { H.stays home.old home.new }
     ensures does { (d : Doing) × Acts settings.now (Act.Trigger spec) manner.now d result
         × Does (H.who home.old) Any (H.has_seen home.old) (H.has_seen home.new) (C.given clock.old) (C.given clock.new)
-        (G.exchanges gate.old) (G.exchanges gate.new) (K.held sink.old) (K.held sink.new) d }
+        (G.exchanges gate.old) (G.exchanges gate.new) (K.held sink.old) (K.held sink.new) d
+        × CountsFaults (G.faults gate.old) (G.faults gate.new) d.calls }
     ensures later { K.faults sink.old ≤ K.faults sink.new }
     ensures write { result ≡ Next.Stops Ending.WriteFault → Rose (K.faults sink.old) (K.faults sink.new) }
 {

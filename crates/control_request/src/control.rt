@@ -10,6 +10,7 @@ ghost use Rattle.history.specs.Event.{event_of};
 ghost use Rattle.control_request.specs.Control.{CallsOnce, IsReplied, IsTold, Serves, event_at, full_count, uncalled};
 ghost use Rattle.session_base.specs.Answer.{Says};
 ghost use Rattle.session_base.specs.Doing.{Any, Does, Doing};
+ghost use Rattle.session_base.specs.GateFaults.{CountsFaults};
 ghost use Rattle.session_base.specs.declared.ending.Ending.{Ending};
 
 use crate::answer::{advertised, answer_to, empty};
@@ -47,7 +48,8 @@ pub fn serve_control<R: Threads + Wait + Sync, H: Home, K: Sink, G: Gate, C: Clo
     ensures stays { H.stays home.old home.new }
     ensures does { (d : Doing) × Serves settings.now asked.now body.now manner.now d result
         × Does (H.who home.old) Any (H.has_seen home.old) (H.has_seen home.new) (C.given clock.old) (C.given clock.new)
-        (G.exchanges gate.old) (G.exchanges gate.new) (K.held sink.old) (K.held sink.new) d }
+        (G.exchanges gate.old) (G.exchanges gate.new) (K.held sink.old) (K.held sink.new) d
+        × CountsFaults (G.faults gate.old) (G.faults gate.new) d.calls }
     ensures later { K.faults sink.old ≤ K.faults sink.new }
     ensures write { result ≡ Next.Stops Ending.WriteFault → Rose (K.faults sink.old) (K.faults sink.new) }
 {

@@ -27,6 +27,7 @@ use Rattle.session_base.specs.Answer.{Answer, Says, IsConstant}
 use Rattle.content_request.specs.Course.{Content, is_short}
 use Rattle.session_base.specs.Doing.{Doing, nothing, Any, Does}
 use Rattle.session_base.specs.Ending.{next_of}
+use Rattle.session_base.specs.GateFaults.{CountsFaults}
 use Rattle.session_base.specs.Moment.{capped}
 use Rattle.session_base.specs.Request.{asked_of, manner_of, read_of}
 use Rattle.session.specs.Session.{LeavesNext}
@@ -42,6 +43,7 @@ use Rattle.session_base.specs.declared.send.Sent.{Sent}
 use Rattle.session_base.specs.declared.settings.Settings.{Settings}
 use Rattle.session.specs.declared.turn.TheConstants.{BODY_LIMIT}
 use Rattle.session_base.proofs.DoingLemmas.{does_nothing}
+use Rattle.session_base.proofs.GateFaultLemmas.{counts_none}
 use Rattle.control_request.specs.Control.{Serves}
 use Rattle.control_request.proofs.ControlLemmas.{serves_goes}
 
@@ -66,69 +68,72 @@ pub read_none : (over : Protocol) (moment : ℕ) (last : Bool) (head : HeadParts
 read_none over moment last head e = no_pair (asked_of over head) (manner_of head moment last) e
 
 -- what a turn does, with what is told of it
-abbrev pub Turned : Who → (History → Type 0) → (History → Type 0) → Option (List ℕ) → Option (List ℕ) → Option (List Exchange) → Option (List Exchange) → Option (List ℕ) → Option (List ℕ) → Option (List ℕ) → Option (List ℕ) → List ℕ → List ℕ → Settings → Place → Bool → Next → Type 0
-Turned who a b g g' t t' k k' left left' inbox inbox' settings place last after =
-    (d : Doing) × Turn settings place last d after × Moves left left' inbox inbox' d.bytes × LeavesNext left' inbox' after × Does who Any a b g g' t t' k k' d
+abbrev pub Turned : Who → (History → Type 0) → (History → Type 0) → Option (List ℕ) → Option (List ℕ) → Option (List Exchange) → Option (List Exchange) → ℕ → ℕ → Option (List ℕ) → Option (List ℕ) → Option (List ℕ) → Option (List ℕ) → List ℕ → List ℕ → Settings → Place → Bool → Next → Type 0
+Turned who a b g g' t t' f f' k k' left left' inbox inbox' settings place last after =
+    (d : Doing) × Turn settings place last d after × Moves left left' inbox inbox' d.bytes × LeavesNext left' inbox' after × Does who Any a b g g' t t' k k' d × CountsFaults f f' d.calls
 
-abbrev pub TurnedBehind : List ℕ → Who → (History → Type 0) → (History → Type 0) → Option (List ℕ) → Option (List ℕ) → Option (List Exchange) → Option (List Exchange) → Option (List ℕ) → Option (List ℕ) → Option (List ℕ) → Option (List ℕ) → List ℕ → List ℕ → Settings → Place → Bool → Next → Type 0
-TurnedBehind front who a b g g' t t' k k' left left' inbox inbox' settings place last after =
-    (d : Doing) × TurnBehind front settings place last d after × Moves left left' inbox inbox' d.bytes × LeavesNext left' inbox' after × Does who Any a b g g' t t' k k' d
+abbrev pub TurnedBehind : List ℕ → Who → (History → Type 0) → (History → Type 0) → Option (List ℕ) → Option (List ℕ) → Option (List Exchange) → Option (List Exchange) → ℕ → ℕ → Option (List ℕ) → Option (List ℕ) → Option (List ℕ) → Option (List ℕ) → List ℕ → List ℕ → Settings → Place → Bool → Next → Type 0
+TurnedBehind front who a b g g' t t' f f' k k' left left' inbox inbox' settings place last after =
+    (d : Doing) × TurnBehind front settings place last d after × Moves left left' inbox inbox' d.bytes × LeavesNext left' inbox' after × Does who Any a b g g' t t' k k' d × CountsFaults f f' d.calls
 
 -- the head was read, and then the rest
-pub headed : (front : List ℕ) (who : Who) (a b : History → Type 0) (g g' : Option (List ℕ)) (t t' : Option (List Exchange)) (k k' : Option (List ℕ)) (left middle left' : Option (List ℕ)) (inbox inbox' inbox'' : List ℕ) (settings : Settings) (place : Place) (last : Bool) (after : Next)
-    → Moves left middle inbox inbox' front → TurnedBehind front who a b g g' t t' k k' middle left' inbox' inbox'' settings place last after
-    → Turned who a b g g' t t' k k' left left' inbox inbox'' settings place last after
-headed front who a b g g' t t' k k' left middle left' inbox inbox' inbox'' settings place last after moves r = (
+pub headed : (front : List ℕ) (who : Who) (a b : History → Type 0) (g g' : Option (List ℕ)) (t t' : Option (List Exchange)) (f f' : ℕ) (k k' : Option (List ℕ)) (left middle left' : Option (List ℕ)) (inbox inbox' inbox'' : List ℕ) (settings : Settings) (place : Place) (last : Bool) (after : Next)
+    → Moves left middle inbox inbox' front → TurnedBehind front who a b g g' t t' f f' k k' middle left' inbox' inbox'' settings place last after
+    → Turned who a b g g' t t' f f' k k' left left' inbox inbox'' settings place last after
+headed front who a b g g' t t' f f' k k' left middle left' inbox inbox' inbox'' settings place last after moves r = (
   record r.0 { bytes = front ++ r.0.bytes },
   r.1,
   moves_then left middle left' inbox inbox' inbox'' front r.0.bytes moves r.2,
   r.3,
   record { moments = r.4.moments; exchanges = r.4.exchanges; written = r.4.written; calls = r.4.calls },
+  r.5,
 )
 
 -- no head came, and nothing was written
-pub no_head : (who : Who) (a : History → Type 0) (g : Option (List ℕ)) (t : Option (List Exchange)) (k : Option (List ℕ)) (left left' : Option (List ℕ)) (inbox inbox' bytes : List ℕ) (settings : Settings) (place : Place) (last : Bool) (end : Ending)
+pub no_head : (who : Who) (a : History → Type 0) (g : Option (List ℕ)) (t : Option (List Exchange)) (f : ℕ) (k : Option (List ℕ)) (left left' : Option (List ℕ)) (inbox inbox' bytes : List ℕ) (settings : Settings) (place : Place) (last : Bool) (end : Ending)
     → HasNoRequest bytes [] end → Moves left left' inbox inbox' bytes → LeavesNext left' inbox' (next.Stops end)
-    → Turned who a a g g t t k k left left' inbox inbox' settings place last (next.Stops end)
-no_head who a g t k left left' inbox inbox' bytes settings place last end cause moves leaves = (
+    → Turned who a a g g t t f f k k left left' inbox inbox' settings place last (next.Stops end)
+no_head who a g t f k left left' inbox inbox' bytes settings place last end cause moves leaves = (
   record nothing { bytes = bytes },
   inl (end, refl, record { cause = cause; moments = refl; exchanges = refl; calls = refl }),
   moves,
   leaves,
   record { moments = grows_none g; exchanges = grows_none t; written = (does_nothing who Any a g t k).written; calls = (does_nothing who Any a g t k).calls },
+  counts_none f,
 )
 
 -- no head came, and an answer was written
-said_no_head : (who : Who) (a : History → Type 0) (g : Option (List ℕ)) (t : Option (List Exchange)) (Is : Answer → Type 0) (k k' : Option (List ℕ)) (sent : Sent) (s : Says Is k k' sent) (left left' : Option (List ℕ)) (inbox inbox' bytes : List ℕ) (settings : Settings) (place : Place) (last : Bool) (end : Ending)
+said_no_head : (who : Who) (a : History → Type 0) (g : Option (List ℕ)) (t : Option (List Exchange)) (f : ℕ) (Is : Answer → Type 0) (k k' : Option (List ℕ)) (sent : Sent) (s : Says Is k k' sent) (left left' : Option (List ℕ)) (inbox inbox' bytes : List ℕ) (settings : Settings) (place : Place) (last : Bool) (end : Ending)
     → HasNoRequest bytes s.written end → Moves left left' inbox inbox' bytes → LeavesNext left' inbox' (next.Stops end)
-    → Turned who a a g g t t k k' left left' inbox inbox' settings place last (next.Stops end)
-said_no_head who a g t Is k k' sent s left left' inbox inbox' bytes settings place last end cause moves leaves = (
+    → Turned who a a g g t t f f k k' left left' inbox inbox' settings place last (next.Stops end)
+said_no_head who a g t f Is k k' sent s left left' inbox inbox' bytes settings place last end cause moves leaves = (
   record nothing { bytes = bytes; written = s.written },
   inl (end, refl, record { cause = cause; moments = refl; exchanges = refl; calls = refl }),
   moves,
   leaves,
   record { moments = grows_none g; exchanges = grows_none t; written = s.put; calls = (does_nothing who Any a g t k).calls },
+  counts_none f,
 )
 
 writes : (which : Constant) (k k' : Option (List ℕ)) (sent : Sent) (s : Says (IsConstant which) k k' sent) → Writes which s.written sent.fault
 writes which k k' sent s = (s.answer, s.is, s.takes)
 
-pub bad_head : (who : Who) (a : History → Type 0) (g : Option (List ℕ)) (t : Option (List Exchange)) (k k' : Option (List ℕ)) (sent : Sent) (left left' : Option (List ℕ)) (inbox inbox' bytes : List ℕ) (settings : Settings) (place : Place) (last : Bool) (taken : ℕ) (after : Next)
+pub bad_head : (who : Who) (a : History → Type 0) (g : Option (List ℕ)) (t : Option (List Exchange)) (f : ℕ) (k k' : Option (List ℕ)) (sent : Sent) (left left' : Option (List ℕ)) (inbox inbox' bytes : List ℕ) (settings : Settings) (place : Place) (last : Bool) (taken : ℕ) (after : Next)
     → Says (IsConstant constant.BadRequest) k k' sent → after ≡ bad_next taken sent.fault → IsBadHead Spells HasNoHead MayBecomeRequest IsHopelessHead bytes taken → Moves left left' inbox inbox' bytes
-    → Turned who a a g g t t k k' left left' inbox inbox' settings place last after
-bad_head who a g t k k' sent left left' inbox inbox' bytes settings place last taken after s goes bad moves =
-    subst (Turned who a a g g t t k k' left left' inbox inbox' settings place last) (sym goes) (elim (sent.fault) as (λ x. sent.fault ≡ x → Turned who a a g g t t k k' left left' inbox inbox' settings place last (bad_next taken x)) [
-      | true ↦ λ e. said_no_head who a g t _ k k' sent s left left' inbox inbox' bytes settings place last ending.WriteFault (inl (taken, bad, subst (Writes constant.BadRequest s.written) e (writes constant.BadRequest k k' sent s))) moves tt
-      | false ↦ λ e. said_no_head who a g t _ k k' sent s left left' inbox inbox' bytes settings place last (ending.BadHead taken) (bad, subst (Writes constant.BadRequest s.written) e (writes constant.BadRequest k k' sent s)) moves tt
+    → Turned who a a g g t t f f k k' left left' inbox inbox' settings place last after
+bad_head who a g t f k k' sent left left' inbox inbox' bytes settings place last taken after s goes bad moves =
+    subst (Turned who a a g g t t f f k k' left left' inbox inbox' settings place last) (sym goes) (elim (sent.fault) as (λ x. sent.fault ≡ x → Turned who a a g g t t f f k k' left left' inbox inbox' settings place last (bad_next taken x)) [
+      | true ↦ λ e. said_no_head who a g t f _ k k' sent s left left' inbox inbox' bytes settings place last ending.WriteFault (inl (taken, bad, subst (Writes constant.BadRequest s.written) e (writes constant.BadRequest k k' sent s))) moves tt
+      | false ↦ λ e. said_no_head who a g t f _ k k' sent s left left' inbox inbox' bytes settings place last (ending.BadHead taken) (bad, subst (Writes constant.BadRequest s.written) e (writes constant.BadRequest k k' sent s)) moves tt
     ] refl)
 
-pub short_of_head : (who : Who) (a : History → Type 0) (g : Option (List ℕ)) (t : Option (List Exchange)) (k k' : Option (List ℕ)) (sent : Sent) (left left' : Option (List ℕ)) (inbox inbox' : List ℕ) (settings : Settings) (place : Place) (last : Bool) (after : Next)
+pub short_of_head : (who : Who) (a : History → Type 0) (g : Option (List ℕ)) (t : Option (List Exchange)) (f : ℕ) (k k' : Option (List ℕ)) (sent : Sent) (left left' : Option (List ℕ)) (inbox inbox' : List ℕ) (settings : Settings) (place : Place) (last : Bool) (after : Next)
     → Says (IsConstant constant.Unavailable) k k' sent → after ≡ next_of false true sent.fault → Moves left left' inbox inbox' []
-    → Turned who a a g g t t k k' left left' inbox inbox' settings place last after
-short_of_head who a g t k k' sent left left' inbox inbox' settings place last after s goes moves =
-    subst (Turned who a a g g t t k k' left left' inbox inbox' settings place last) (sym goes) (elim (sent.fault) as (λ x. sent.fault ≡ x → Turned who a a g g t t k k' left left' inbox inbox' settings place last (next_of false true x)) [
-      | true ↦ λ e. said_no_head who a g t _ k k' sent s left left' inbox inbox' [] settings place last ending.WriteFault (inr (subst (Writes constant.Unavailable s.written) e (writes constant.Unavailable k k' sent s))) moves tt
-      | false ↦ λ e. said_no_head who a g t _ k k' sent s left left' inbox inbox' [] settings place last ending.Memory (subst (Writes constant.Unavailable s.written) e (writes constant.Unavailable k k' sent s)) moves tt
+    → Turned who a a g g t t f f k k' left left' inbox inbox' settings place last after
+short_of_head who a g t f k k' sent left left' inbox inbox' settings place last after s goes moves =
+    subst (Turned who a a g g t t f f k k' left left' inbox inbox' settings place last) (sym goes) (elim (sent.fault) as (λ x. sent.fault ≡ x → Turned who a a g g t t f f k k' left left' inbox inbox' settings place last (next_of false true x)) [
+      | true ↦ λ e. said_no_head who a g t f _ k k' sent s left left' inbox inbox' [] settings place last ending.WriteFault (inr (subst (Writes constant.Unavailable s.written) e (writes constant.Unavailable k k' sent s))) moves tt
+      | false ↦ λ e. said_no_head who a g t f _ k k' sent s left left' inbox inbox' [] settings place last ending.Memory (subst (Writes constant.Unavailable s.written) e (writes constant.Unavailable k k' sent s)) moves tt
     ] refl)
 
 -- ---- behind a head
@@ -141,11 +146,11 @@ stops_free left inbox true false false = tt
 stops_free left inbox false false false = tt
 
 -- the request is refused by its head
-pub refused : (front : List ℕ) (who : Who) (a : History → Type 0) (g g' : Option (List ℕ)) (t : Option (List Exchange)) (k k' : Option (List ℕ)) (sent : Sent) (left left' : Option (List ℕ)) (inbox inbox' : List ℕ) (settings : Settings) (place : Place) (last : Bool) (head : HeadParts) (moment : ℕ) (which : Constant) (after : Next)
+pub refused : (front : List ℕ) (who : Who) (a : History → Type 0) (g g' : Option (List ℕ)) (t : Option (List Exchange)) (f : ℕ) (k k' : Option (List ℕ)) (sent : Sent) (left left' : Option (List ℕ)) (inbox inbox' : List ℕ) (settings : Settings) (place : Place) (last : Bool) (head : HeadParts) (moment : ℕ) (which : Constant) (after : Next)
     → Spells front head → Says (IsConstant which) k k' sent → after ≡ next_of (not last) false sent.fault → IsRefused (asked_of settings.protocol head) (framing_of head.headers) which
-    → Grows g g' (moment ∷ []) → Moves left left' inbox inbox' [] → TurnedBehind front who a a g g' t t k k' left left' inbox inbox' settings place last after
-refused front who a g g' t k k' sent left left' inbox inbox' settings place last head moment which after spells s goes refuses grows moves =
-    subst (TurnedBehind front who a a g g' t t k k' left left' inbox inbox' settings place last) (sym goes) (
+    → Grows g g' (moment ∷ []) → Moves left left' inbox inbox' [] → TurnedBehind front who a a g g' t t f f k k' left left' inbox inbox' settings place last after
+refused front who a g g' t f k k' sent left left' inbox inbox' settings place last head moment which after spells s goes refuses grows moves =
+    subst (TurnedBehind front who a a g g' t t f f k k' left left' inbox inbox' settings place last) (sym goes) (
       record nothing { moments = moment ∷ []; written = s.written },
       inr (inl (record {
         head = head;
@@ -160,13 +165,14 @@ refused front who a g g' t k k' sent left left' inbox inbox' settings place last
       moves,
       stops_free left' inbox' (not last) false sent.fault,
       record { moments = grows; exchanges = grows_none t; written = s.put; calls = (does_nothing who Any a g t k).calls },
+      counts_none f,
     )
 
 -- the request was not read whole, and nothing was written
-pub broken : (front part : List ℕ) (who : Who) (a : History → Type 0) (g g' : Option (List ℕ)) (t : Option (List Exchange)) (k : Option (List ℕ)) (left left' : Option (List ℕ)) (inbox inbox' : List ℕ) (settings : Settings) (place : Place) (last : Bool) (head : HeadParts) (moment : ℕ) (after : Next)
+pub broken : (front part : List ℕ) (who : Who) (a : History → Type 0) (g g' : Option (List ℕ)) (t : Option (List Exchange)) (f : ℕ) (k : Option (List ℕ)) (left left' : Option (List ℕ)) (inbox inbox' : List ℕ) (settings : Settings) (place : Place) (last : Bool) (head : HeadParts) (moment : ℕ) (after : Next)
     → Spells front head → BreaksOff (asked_of settings.protocol head) (framing_of head.headers) part [] after → Grows g g' (moment ∷ []) → Moves left left' inbox inbox' part → LeavesNext left' inbox' after
-    → TurnedBehind front who a a g g' t t k k left left' inbox inbox' settings place last after
-broken front part who a g g' t k left left' inbox inbox' settings place last head moment after spells breaks grows moves leaves = (
+    → TurnedBehind front who a a g g' t t f f k k left left' inbox inbox' settings place last after
+broken front part who a g g' t f k left left' inbox inbox' settings place last head moment after spells breaks grows moves leaves = (
   record nothing { bytes = part; moments = moment ∷ [] },
   inr (inr (inl (record {
     head = head;
@@ -180,6 +186,7 @@ broken front part who a g g' t k left left' inbox inbox' settings place last hea
   moves,
   leaves,
   record { moments = grows; exchanges = grows_none t; written = (does_nothing who Any a g t k).written; calls = (does_nothing who Any a g t k).calls },
+  counts_none f,
 )
 
 breaks_short : (asked : Option Asked) (told : Framing) (part written : List ℕ) (fault : Bool) → Writes constant.Unavailable written fault → BreaksOff asked told part written (next_of false true fault)
@@ -187,11 +194,11 @@ breaks_short asked told part written true w = w
 breaks_short asked told part written false w = w
 
 -- or for want of memory
-pub broken_short : (front part : List ℕ) (who : Who) (a : History → Type 0) (g g' : Option (List ℕ)) (t : Option (List Exchange)) (k k' : Option (List ℕ)) (sent : Sent) (left left' : Option (List ℕ)) (inbox inbox' : List ℕ) (settings : Settings) (place : Place) (last : Bool) (head : HeadParts) (moment : ℕ) (after : Next)
+pub broken_short : (front part : List ℕ) (who : Who) (a : History → Type 0) (g g' : Option (List ℕ)) (t : Option (List Exchange)) (f : ℕ) (k k' : Option (List ℕ)) (sent : Sent) (left left' : Option (List ℕ)) (inbox inbox' : List ℕ) (settings : Settings) (place : Place) (last : Bool) (head : HeadParts) (moment : ℕ) (after : Next)
     → Spells front head → Says (IsConstant constant.Unavailable) k k' sent → after ≡ next_of false true sent.fault → Grows g g' (moment ∷ []) → Moves left left' inbox inbox' part
-    → TurnedBehind front who a a g g' t t k k' left left' inbox inbox' settings place last after
-broken_short front part who a g g' t k k' sent left left' inbox inbox' settings place last head moment after spells s goes grows moves =
-    subst (TurnedBehind front who a a g g' t t k k' left left' inbox inbox' settings place last) (sym goes) (
+    → TurnedBehind front who a a g g' t t f f k k' left left' inbox inbox' settings place last after
+broken_short front part who a g g' t f k k' sent left left' inbox inbox' settings place last head moment after spells s goes grows moves =
+    subst (TurnedBehind front who a a g g' t t f f k k' left left' inbox inbox' settings place last) (sym goes) (
       record nothing { bytes = part; moments = moment ∷ []; written = s.written },
       inr (inr (inl (record {
         head = head;
@@ -205,6 +212,7 @@ broken_short front part who a g g' t k k' sent left left' inbox inbox' settings 
       moves,
       stops_free left' inbox' false true sent.fault,
       record { moments = grows; exchanges = grows_none t; written = s.put; calls = (does_nothing who Any a g t k).calls },
+      counts_none f,
     )
 
 -- what follows a request that was answered says nothing of what is left
@@ -214,11 +222,11 @@ answered_free left inbox settings place asked body manner d after (inl control) 
 answered_free left inbox settings place asked body manner d after (inr content) = subst (LeavesNext left inbox) (sym content.1.goes) (stops_free left inbox manner.leaves (is_short content.1.course) content.1.fault)
 
 -- the request was read whole, and served
-pub served : (front body : List ℕ) (who : Who) (a b : History → Type 0) (g g' g'' : Option (List ℕ)) (t t' : Option (List Exchange)) (k k' : Option (List ℕ)) (left left' : Option (List ℕ)) (inbox inbox' : List ℕ) (settings : Settings) (place : Place) (last : Bool) (head : HeadParts) (moment : ℕ) (asked : Asked) (manner : Manner) (after : Next) (d : Doing)
+pub served : (front body : List ℕ) (who : Who) (a b : History → Type 0) (g g' g'' : Option (List ℕ)) (t t' : Option (List Exchange)) (f f' : ℕ) (k k' : Option (List ℕ)) (left left' : Option (List ℕ)) (inbox inbox' : List ℕ) (settings : Settings) (place : Place) (last : Bool) (head : HeadParts) (moment : ℕ) (asked : Asked) (manner : Manner) (after : Next) (d : Doing)
     → Spells front head → asked_of settings.protocol head ≡ Some asked → manner ≡ manner_of head (capped moment) last → framing_of head.headers ≡ framing.Length (length body) → length body ≤ BODY_LIMIT
-    → Grows g g' (moment ∷ []) → Moves left left' inbox inbox' body → Answers settings place asked body manner d after → Does who Any a b g' g'' t t' k k' d
-    → TurnedBehind front who a b g g'' t t' k k' left left' inbox inbox' settings place last after
-served front body who a b g g' g'' t t' k k' left left' inbox inbox' settings place last head moment asked manner after d spells asks manners framed within grows moves answers does = (
+    → Grows g g' (moment ∷ []) → Moves left left' inbox inbox' body → Answers settings place asked body manner d after → Does who Any a b g' g'' t t' k k' d → CountsFaults f f' d.calls
+    → TurnedBehind front who a b g g'' t t' f f' k k' left left' inbox inbox' settings place last after
+served front body who a b g g' g'' t t' f f' k k' left left' inbox inbox' settings place last head moment asked manner after d spells asks manners framed within grows moves answers does counts = (
   record { bytes = body; moments = moment ∷ d.moments; exchanges = d.exchanges; written = d.written; calls = d.calls },
   inr (inr (inr (record {
     asked = asked;
@@ -231,18 +239,19 @@ served front body who a b g g' g'' t t' k k' left left' inbox inbox' settings pl
   moves,
   answered_free left' inbox' settings place asked body manner d after answers,
   record { moments = grows_on g g' g'' (moment ∷ []) d.moments grows does.moments; exchanges = does.exchanges; written = does.written; calls = does.calls },
+  counts,
 )
 
 -- a request of the upstream CDN
-pub for_control : (who : Who) (a b : History → Type 0) (g g' : Option (List ℕ)) (t t' : Option (List Exchange)) (k k' : Option (List ℕ)) (settings : Settings) (place : Place) (asked : Asked) (body : List ℕ) (manner : Manner) (after : Next) (d : Doing)
-    → IsControl settings asked true → Serves settings asked body manner d after → Does who Any a b g g' t t' k k' d
-    → (e : Doing) × Answers settings place asked body manner e after × Does who Any a b g g' t t' k k' e
-for_control who a b g g' t t' k k' settings place asked body manner after d control serves does = (d, inl (control, serves), does)
+pub for_control : (who : Who) (a b : History → Type 0) (g g' : Option (List ℕ)) (t t' : Option (List Exchange)) (f f' : ℕ) (k k' : Option (List ℕ)) (settings : Settings) (place : Place) (asked : Asked) (body : List ℕ) (manner : Manner) (after : Next) (d : Doing)
+    → IsControl settings asked true → Serves settings asked body manner d after → Does who Any a b g g' t t' k k' d → CountsFaults f f' d.calls
+    → (e : Doing) × Answers settings place asked body manner e after × Does who Any a b g g' t t' k k' e × CountsFaults f f' e.calls
+for_control who a b g g' t t' f f' k k' settings place asked body manner after d control serves does counts = (d, inl (control, serves), does, counts)
 
-pub for_content : (who : Who) (a b : History → Type 0) (g g' : Option (List ℕ)) (t t' : Option (List Exchange)) (k k' : Option (List ℕ)) (settings : Settings) (place : Place) (asked : Asked) (body : List ℕ) (manner : Manner) (after : Next) (d : Doing)
-    → IsControl settings asked false → Content settings.root asked place manner d after → Does who Any a b g g' t t' k k' d
-    → (e : Doing) × Answers settings place asked body manner e after × Does who Any a b g g' t t' k k' e
-for_content who a b g g' t t' k k' settings place asked body manner after d other content does = (d, inr (other, content), does)
+pub for_content : (who : Who) (a b : History → Type 0) (g g' : Option (List ℕ)) (t t' : Option (List Exchange)) (f f' : ℕ) (k k' : Option (List ℕ)) (settings : Settings) (place : Place) (asked : Asked) (body : List ℕ) (manner : Manner) (after : Next) (d : Doing)
+    → IsControl settings asked false → Content settings.root asked place manner d after → Does who Any a b g g' t t' k k' d → CountsFaults f f' d.calls
+    → (e : Doing) × Answers settings place asked body manner e after × Does who Any a b g g' t t' k k' e × CountsFaults f f' e.calls
+for_content who a b g g' t t' f f' k k' settings place asked body manner after d other content does counts = (d, inr (other, content), does, counts)
 
 -- ---- what was read
 

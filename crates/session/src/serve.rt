@@ -5,6 +5,7 @@ ghost use Rattle.std.specs.Io.KnownBytes.{Consumes};
 ghost use Rattle.edge_base.specs.Causes.{Rose};
 ghost use Rattle.history.specs.Event.{History};
 ghost use Rattle.session_base.specs.Doing.{Any, Does, Doing};
+ghost use Rattle.session_base.specs.GateFaults.{CountsFaults};
 ghost use Rattle.session.specs.Law.{KeepsTheLaw};
 ghost use Rattle.session.specs.Session.{Leaves, Session};
 
@@ -55,7 +56,8 @@ pub fn serve_session<R: Threads + Wait + Sync, H: Home, S: Source, K: Sink, G: G
         × Consumes (S.left source.old) (S.left source.new) (d.bytes ++ rest)
         × Leaves (S.left source.new) rest result
         × Does (H.who home.old) Any (H.has_seen home.old) (H.has_seen home.new) (C.given clock.old) (C.given clock.new)
-        (G.exchanges gate.old) (G.exchanges gate.new) (K.held sink.old) (K.held sink.new) d }
+        (G.exchanges gate.old) (G.exchanges gate.new) (K.held sink.old) (K.held sink.new) d
+        × CountsFaults (G.faults gate.old) (G.faults gate.new) d.calls }
     ensures law { (h : History) → H.has_seen home.new h → KeepsTheLaw (H.who home.new).made h }
     ensures write_later { K.faults sink.old ≤ K.faults sink.new }
     ensures write { result ≡ Ending.WriteFault → Rose (K.faults sink.old) (K.faults sink.new) }

@@ -8,6 +8,7 @@ ghost use Rattle.http_wire.specs.Head.{Spells};
 ghost use Rattle.session_base.specs.Answer.{IsConstant, Says};
 ghost use Rattle.session_base.specs.Doing.{Any, Does, Doing};
 ghost use Rattle.session_base.specs.Ending.{next_of};
+ghost use Rattle.session_base.specs.GateFaults.{CountsFaults};
 ghost use Rattle.session.specs.Session.{LeavesNext};
 ghost use Rattle.session.specs.Turn.{Answers, Turn, TurnBehind, bad_next};
 
@@ -51,7 +52,8 @@ pub(crate) fn serve_one<R: Threads + Wait + Sync, H: Home, S: Source, K: Sink, G
         × Moves (S.left source.old) (S.left source.new) inbox.old inbox.new d.bytes
         × LeavesNext (S.left source.new) inbox.new result
         × Does (H.who home.old) Any (H.has_seen home.old) (H.has_seen home.new) (C.given clock.old) (C.given clock.new)
-        (G.exchanges gate.old) (G.exchanges gate.new) (K.held sink.old) (K.held sink.new) d }
+        (G.exchanges gate.old) (G.exchanges gate.new) (K.held sink.old) (K.held sink.new) d
+        × CountsFaults (G.faults gate.old) (G.faults gate.new) d.calls }
     ensures later { K.faults sink.old ≤ K.faults sink.new }
     ensures write { result ≡ Next.Stops Ending.WriteFault → Rose (K.faults sink.old) (K.faults sink.new) }
     ensures read_later { S.faults source.old ≤ S.faults source.new }
@@ -113,7 +115,8 @@ fn serve_head<R: Threads + Wait + Sync, H: Home, S: Source, K: Sink, G: Gate, C:
         × Moves (S.left source.old) (S.left source.new) inbox.old inbox.new d.bytes
         × LeavesNext (S.left source.new) inbox.new result
         × Does (H.who home.old) Any (H.has_seen home.old) (H.has_seen home.new) (C.given clock.old) (C.given clock.new)
-        (G.exchanges gate.old) (G.exchanges gate.new) (K.held sink.old) (K.held sink.new) d }
+        (G.exchanges gate.old) (G.exchanges gate.new) (K.held sink.old) (K.held sink.new) d
+        × CountsFaults (G.faults gate.old) (G.faults gate.new) d.calls }
     ensures later { K.faults sink.old ≤ K.faults sink.new }
     ensures write { result ≡ Next.Stops Ending.WriteFault → Rose (K.faults sink.old) (K.faults sink.new) }
     ensures read_later { S.faults source.old ≤ S.faults source.new }
@@ -179,7 +182,8 @@ fn serve_whole<R: Threads + Wait + Sync, H: Home, K: Sink, G: Gate, C: Clock>(
     ensures stays { H.stays home.old home.new }
     ensures does { (d : Doing) × Answers settings.now place asked body.now manner.now d result
         × Does (H.who home.old) Any (H.has_seen home.old) (H.has_seen home.new) (C.given clock.old) (C.given clock.new)
-        (G.exchanges gate.old) (G.exchanges gate.new) (K.held sink.old) (K.held sink.new) d }
+        (G.exchanges gate.old) (G.exchanges gate.new) (K.held sink.old) (K.held sink.new) d
+        × CountsFaults (G.faults gate.old) (G.faults gate.new) d.calls }
     ensures later { K.faults sink.old ≤ K.faults sink.new }
     ensures write { result ≡ Next.Stops Ending.WriteFault → Rose (K.faults sink.old) (K.faults sink.new) }
 {

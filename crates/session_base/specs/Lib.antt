@@ -2,6 +2,7 @@ pub mod Answer
 pub mod Content
 pub mod Doing
 pub mod Ending
+pub mod GateFaults
 pub mod Gathering
 pub mod Moment
 pub mod Open

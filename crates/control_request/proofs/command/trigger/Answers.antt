@@ -26,7 +26,7 @@ returns-in-Ok-Created-clause-does g c =
     let made = c.in-Ok-Created in
     let spec = c.args.spec in
     let moment = c.args.manner.now.moment in
-    triggered c.args.settings.now spec c.args.manner.now _ _ _ _ _ _ _ _ _ _ made.id c.tell_created-told.result.sent c.tell_created-told.result.short c.advance_all-last.result c.next_behind.result
+    triggered c.args.settings.now spec c.args.manner.now _ _ _ _ _ _ _ _ _ _ _ _ made.id c.tell_created-told.result.sent c.tell_created-told.result.short c.advance_all-last.result c.next_behind.result
     (c.tell_created-told.ensures.says spec (text_created c.resource_of-text.result.0 made.id spec moment c.resource_of-text.ensures.text))
     (command_made _ _ _ spec _ moment _ _ made.field-0-is c.resource_of-text.ensures.spec made.ensures.seen) _ c.call.ensures.who c.advance_all-last.ensures.does
     (c.next_behind.ensures ∙ ap (next_behind c.advance_all-last.result) c.next_of.ensures)
@@ -35,7 +35,7 @@ pub returns-in-Ok-Full-clause-does : goal.returns-in-Ok-Full-clause-does
 returns-in-Ok-Full-clause-does g c =
     let spec = c.args.spec in
     let moment = c.args.manner.now.moment in
-    acted c.args.settings.now (act.Trigger spec) c.args.manner.now _ _ _ _ _ _ _ c.turn_away-sent.result _ (Replied (Command spec moment) (reply.Full c.in-Ok-Full.count) false) c.next_of-in-Ok-Full.result
+    acted c.args.settings.now (act.Trigger spec) c.args.manner.now _ _ _ _ _ _ _ _ c.turn_away-sent.result _ (Replied (Command spec moment) (reply.Full c.in-Ok-Full.count) false) c.next_of-in-Ok-Full.result
     (refl, c.in-Ok-Full.count, refl) c.turn_away-sent.ensures.says (λ answer is. is) (command_made _ _ _ spec _ moment _ _ c.in-Ok-Full.field-0-is c.resource_of-text.ensures.spec c.in-Ok-Full.ensures.seen) c.next_of-in-Ok-Full.ensures
 
 pub returns-in-Ok-Full-clause-write : goal.returns-in-Ok-Full-clause-write
@@ -43,4 +43,4 @@ returns-in-Ok-Full-clause-write g c = λ stops. c.turn_away-sent.ensures.cause.f
 
 pub returns-in-Err-clause-does : goal.returns-in-Err-clause-does
 returns-in-Err-clause-does g c =
-    acted c.args.settings.now (act.Trigger c.args.spec) c.args.manner.now _ _ _ _ _ _ _ c.refuse-sent.result _ NoRoom c.next_of-in-Err.result tt c.refuse-sent.ensures.says (λ answer is. is) (made_none _ _ _ c.in-Err.ensures.seen) c.next_of-in-Err.ensures
+    acted c.args.settings.now (act.Trigger c.args.spec) c.args.manner.now _ _ _ _ _ _ _ _ c.refuse-sent.result _ NoRoom c.next_of-in-Err.result tt c.refuse-sent.ensures.says (λ answer is. is) (made_none _ _ _ c.in-Err.ensures.seen) c.next_of-in-Err.ensures

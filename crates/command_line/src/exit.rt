@@ -16,7 +16,7 @@ use std::sync::Wait;
 use std::thread::Threads;
 use trigger_cascade::Link;
 
-/// RunsWords the command that these words are, as [`run_words`] does, or, where they could not be taken, notes the status that
+/// Runs the command that these words are, as [`run_words`] does, or, where they could not be taken, notes the status that
 /// says so and does nothing else. The exit code is the number of the status, from 0 to 6. It may wait, and need not return.
 pub fn exit_of<R: Threads + Wait + Sync, S: Source, K: Sink, E: Sink, O: Outside, L: Link>(
     rt: &R,

@@ -13,7 +13,7 @@ use std::sync::Wait;
 use std::thread::Threads;
 use trigger_cascade::{Link, cascade_main};
 
-/// RunsWords the command that `words`, those after the program's name, are. Where the first is `serve` it serves over `outside`;
+/// Runs the command that `words`, those after the program's name, are. Where the first is `serve` it serves over `outside`;
 /// where it is `cascade` a trigger command is read from `input`, passed on over `link`, and what comes of it is written to
 /// `output`; and else the command reads `input` and writes `output`. What a command has no use for it leaves as it was. One
 /// line on how it ended, but for `Done`, goes to `notes`; where that fails nothing else changes. `serve` may wait, and need

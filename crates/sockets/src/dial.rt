@@ -1,6 +1,7 @@
 //! Connections to other servers.
 
 ghost use Rattle.std.specs.Prelude.{◌≡◌, IfOk, IfSome, Ok};
+ghost use Rattle.std.specs.Arc.{arc_value};
 ghost use Rattle.std.specs.Iterator.{IsFinite};
 
 use crate::link::Link;
@@ -83,7 +84,9 @@ pub fn origin_ends<C: Clock + Clone + Drop>(
     waits: &Waits,
     stream: TcpStream,
 ) -> Result<(OriginSource<C>, SocketSink<C>), AllocError>
-    ensures { IfOk result (λ ends. (ends.0.faults ≡ 0) × (ends.1.faults ≡ 0)) }
+    ensures faults { IfOk result (λ ends. (ends.0.faults ≡ 0) × (ends.1.faults ≡ 0)) }
+    ensures source { IfOk result (λ ends. (arc_value ends.0.link).stream ≡ stream) }
+    ensures sink { IfOk result (λ ends. (arc_value ends.1.link).stream ≡ stream) }
 {
     let link = Arc::new(alloc, Link::new(stream))?;
     let other = Arc::try_clone(&link)?;

@@ -23,7 +23,8 @@ pub struct OriginSource<C: Clock + Drop> {
 impl<C: Clock + Drop> OriginSource<C> {
     // a source that gave nothing yet
     pub(crate) fn new(link: Arc<Link, Global>, clock: C, pace: Pace) -> OriginSource<C>
-        ensures { result.faults ≡ 0 }
+        ensures faults { result.faults ≡ 0 }
+        ensures link { result.link ≡ link }
     {
         OriginSource {
             link,

@@ -3,7 +3,6 @@
 #![tactic(auto)]
 
 mod answer;
-mod far_source;
 mod request;
 mod tcp_link;
 mod wire;

@@ -1,17 +1,15 @@
 //! The link to further CDNs over TCP.
 
-ghost use Rattle.std.specs.Prelude.{◌≡◌};
+ghost use Rattle.std.specs.Prelude.{◌≡◌, IfSome, Some};
+ghost use Rattle.sockets.specs.Peer.{IsPeer};
 
-use crate::far_source::FarSource;
 use crate::wire::{poll_over, post_over};
 use cdni_base::Target;
-use sockets::{Pace, SocketSink, Waits, clock_of};
-use std::alloc::{AllocError, Global};
-use std::net::{Ipv6Addr, Net, SocketAddr, TcpListener, TcpStream, ToSocketAddrs};
-use std::sync::Arc;
-use std::time::{Clock, Duration};
-use targets::TargetFault;
-use trigger_cascade::{Link, Polled, Posted};
+use sockets::{Peer, Waits, connect, origin_ends, peer_of};
+use std::alloc::Global;
+use std::net::{Net, TcpListener, TcpStream};
+use std::time::Clock;
+use trigger_cascade::{Link, Polled, Posted, http_target};
 
 /// Asks further CDNs over TCP, with a connection of its own for each exchange. It does not tell its calls.
 ///
@@ -48,47 +46,7 @@ impl<N: Net<Listener = TcpListener, Stream = TcpStream> + Clock + Clone + Drop> 
 
     // a connection to the endpoint of a target
     fn connect(&self, to: &Target) -> Option<TcpStream> {
-        let host = str::from_utf8(to.host.bytes()).ok()?;
-        match bracketed(host) {
-            Some(inner) => {
-                let ip = inner.parse::<Ipv6Addr>().ok()?;
-                self.connect_each((ip, to.port))
-            }
-            None => self.connect_each((host, to.port)),
-        }
-    }
-
-    // a connection to the first address that takes one
-    fn connect_each<A: ToSocketAddrs>(&self, name: A) -> Option<TcpStream> {
-        let addrs = name.to_socket_addrs(&self.net).ok()?;
-        let mut left = self.waits.connect;
-        for addr in addrs {
-            if left == 0 {
-                return None;
-            }
-            let start = clock_of(&self.net);
-            match connect_within(&self.net, &addr, left) {
-                Some(stream) => return Some(stream),
-                None => {}
-            }
-            let took = clock_of(&self.net).saturating_sub(start);
-            left = left.saturating_sub(took.max(1));
-        }
-        None
-    }
-
-    // both ends of a connection
-    fn ends(
-        &self,
-        alloc: Global,
-        stream: TcpStream,
-    ) -> Result<(FarSource<N>, SocketSink<N>), AllocError> {
-        let link = Arc::new(alloc, sockets::Link::new(stream))?;
-        let other = Arc::try_clone(&link)?;
-        let pace = Pace::of_origin(&self.waits);
-        let source = FarSource::new(link, self.net.clone()?, pace);
-        let sink = SocketSink::new(other, self.net.clone()?, pace);
-        Ok((source, sink))
+        connect(&self.net, &self.waits, &peer_of_target(to)?)
     }
 
     // posts a command
@@ -96,7 +54,7 @@ impl<N: Net<Listener = TcpListener, Stream = TcpStream> + Clock + Clone + Drop> 
         let Some(stream) = self.connect(to) else {
             return Posted::Failed;
         };
-        match self.ends(alloc, stream) {
+        match origin_ends(alloc, &self.net, &self.waits, stream) {
             Ok((mut source, mut sink)) => post_over(alloc, &mut source, &mut sink, to, body),
             Err(_) => Posted::Memory,
         }
@@ -107,7 +65,7 @@ impl<N: Net<Listener = TcpListener, Stream = TcpStream> + Clock + Clone + Drop> 
         let Some(stream) = self.connect(place) else {
             return Polled::Failed;
         };
-        match self.ends(alloc, stream) {
+        match origin_ends(alloc, &self.net, &self.waits, stream) {
             Ok((mut source, mut sink)) => poll_over(alloc, &mut source, &mut sink, place),
             Err(_) => Polled::Memory,
         }
@@ -115,37 +73,19 @@ impl<N: Net<Listener = TcpListener, Stream = TcpStream> + Clock + Clone + Drop> 
 
     // asks for the status resource at this place
     fn ask_at(&self, alloc: Global, place: &[u8]) -> Polled {
-        if !is_http(place) {
-            return Polled::Unreadable;
-        }
-        match Target::read(alloc, place, None, false) {
-            Ok(target) => self.ask(alloc, &target),
-            Err(TargetFault::Memory) => Polled::Memory,
-            Err(_) => Polled::Unreadable,
+        match http_target(alloc, place) {
+            Ok(Some(target)) => self.ask(alloc, &target),
+            Ok(None) => Polled::Unreadable,
+            Err(_) => Polled::Memory,
         }
     }
 }
 
-// whether the text begins with `http://`, in any case
-fn is_http(text: &[u8]) -> bool {
-    text.len() >= 7 && text[..7].eq_ignore_ascii_case(b"http://")
-}
-
-// what stands between brackets
-fn bracketed(host: &str) -> Option<&str> {
-    host.strip_prefix('[')?.strip_suffix(']')
-}
-
-// a connection to this address, within so many milliseconds
-fn connect_within<N: Net<Stream = TcpStream>>(
-    net: &N,
-    addr: &SocketAddr,
-    time: u64,
-) -> Option<TcpStream> {
-    match TcpStream::connect_timeout(net, addr, Duration::from_millis(time)) {
-        Ok(stream) => Some(stream),
-        Err(_) => None,
-    }
+// the peer that a target is at
+fn peer_of_target(to: &Target) -> Option<Peer<'_>>
+    ensures { IfSome result (λ peer. IsPeer to.now.host (Some to.now.port) peer) }
+{
+    peer_of(to.host.bytes(), Some(to.port))
 }
 
 impl<N: Net<Listener = TcpListener, Stream = TcpStream> + Clock + Clone + Drop> Link

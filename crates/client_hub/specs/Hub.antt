@@ -1,12 +1,15 @@
 -- Connections that are accepted.
-use Rattle.std.specs.Prelude.{◌≡◌, ℤ, pos, negsuc, ◌==◌, ◌||◌, if◌then◌else◌}
+use Rattle.std.specs.Prelude.{◌≡◌, ℕ, ℤ, pos, negsuc, List, ◌++◌, ◌==◌, ◌||◌, if◌then◌else◌}
 use Rattle.std.specs.Net.Addr.{ipv4_bits, ipv6_bits, MatchIp, IsCanonicalOf}
 use Rattle.std.specs.declared.net.ip_addr.IpAddr.{IpAddr}
 use Rattle.std.specs.declared.net.ip_addr.IpAddr.TheVariants as addr
 use Rattle.location_acl.specs.declared.ip.Ip.{Ip}
 use Rattle.location_acl.specs.declared.ip.Ip.TheVariants as ip
+use Rattle.client_hub.specs.declared.hub.Look.{Look}
+use Rattle.client_hub.specs.declared.hub.Look.TheVariants as look
 use Rattle.client_hub.specs.declared.hub.Refusal.{Refusal}
 use Rattle.client_hub.specs.declared.hub.Refusal.TheVariants.{Fault, Full, Passing}
+use Rattle.client_hub.specs.declared.parked.Parked.{Parked}
 
 -- EBADF, EINVAL and ENOTSOCK say that the listener is none; ENFILE, EMFILE, ENOMEM and ENOBUFS that nothing is left for
 -- now; any other error is of one connection alone
@@ -25,3 +28,24 @@ number_of (addr.V6 six) = ip.V6 (ipv6_bits six)
 abbrev pub IsClientIp : IpAddr → Ip → Type 0
 IsClientIp told number = (canonical : IpAddr)
     × (MatchIp told (λ _. canonical ≡ told) (λ six. IsCanonicalOf six canonical) × (number ≡ number_of canonical))
+
+-- a moment, or now where it is 0, which is none
+abbrev pub moment_or : ℕ → ℕ → ℕ
+moment_or moment now = if moment == 0 then now else moment
+
+-- the connection of a parked one, for a worker
+abbrev pub given_of : Parked → Look
+given_of parked = look.Given (record { stream = parked.stream; ip = parked.ip; token = parked.token })
+
+-- a connection that is given to a worker is this one, and the bytes that came stand in the room behind those that it had
+abbrev pub IsGivenWith : Parked → List ℕ → List ℕ → Look → Type 0
+IsGivenWith parked had new (look.Given taken) =
+    (look.Given taken ≡ given_of parked) × ((came : List ℕ) × (new ≡ had ++ came))
+IsGivenWith parked had new look.Nothing = Unit {0}
+IsGivenWith parked had new look.Fault = ⊥
+
+-- a connection that is given has the number of some address, as it is told of a client
+abbrev pub IsClientGiven : Look → Type 0
+IsClientGiven (look.Given taken) = (told : IpAddr) × IsClientIp told taken.ip
+IsClientGiven look.Nothing = Unit {0}
+IsClientGiven look.Fault = Unit {0}

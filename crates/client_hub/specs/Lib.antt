@@ -1,4 +1,5 @@
 pub mod Ahead
+pub mod Behind
 pub mod Desk
 pub mod Hub
 pub mod Parked

@@ -1,16 +1,16 @@
-//! What the front of the bytes of a connection is: a head, or what may still become one (RFC 9112, sections 2 to 6).
+//! What the front of the bytes of a connection is: a head, or what may still become one (RFC 9112, sections 2 to 5).
 
 ghost use Rattle.std.specs.Prelude.{◌≡◌, ◌≤◌, ◌<◌, length, IfSome};
 ghost use Rattle.http_wire.specs.declared.limits.TheConstants.{FEEDS_MAX, HEAD_MAX};
 ghost use Rattle.client_hub.specs.Ahead.{IsFrontOf, line_feeds};
+ghost use Rattle.client_hub.specs.Behind.{is_empty_line};
 
 use http_wire::{FEEDS_MAX, FIELDS_MAX, HEAD_MAX};
 use httparse::Status;
 use httparse::spans::{EMPTY_HEADER_SPAN, parse_request};
-use listing::{cut_at, read_digits};
 use memchr::memchr;
 
-const LINE_FEED: u8 = 10;
+pub(crate) const LINE_FEED: u8 = 10;
 
 const RETURN: u8 = 13;
 
@@ -23,15 +23,6 @@ pub enum Front {
     Open,
     /// They never become one.
     Never,
-}
-
-/// What follows a head.
-#[derive(Clone, Copy, Debug, PartialEq, Eq)]
-pub struct Behind {
-    /// How many bytes of a body; none where that is not told so.
-    pub body: Option<u64>,
-    /// Whether the client asked for the end of the connection.
-    pub last: bool,
 }
 
 /// What these bytes are (RFC 9112, sections 2 to 5).
@@ -109,7 +100,10 @@ fn skip_lines(bytes: &[u8]) -> usize
     at
 }
 
-fn is_empty_line(line: &[u8]) -> bool {
+// whether nothing, or a carriage return, stands on the line
+pub(crate) fn is_empty_line(line: &[u8]) -> bool
+    ensures { result ≡ is_empty_line line.now }
+{
     line.is_empty() || line == [RETURN].as_slice()
 }
 
@@ -118,73 +112,4 @@ fn feeds_in(bytes: &[u8]) -> usize
     ensures { result ≡ line_feeds bytes.now }
 {
     bytes.iter().filter(|byte| **byte == LINE_FEED).count()
-}
-
-/// What follows this head (RFC 9112, section 6). Where the length of its body is told twice, or not in digits, or in another
-/// way, none is known.
-pub fn what_follows(head: &[u8]) -> Behind {
-    let mut body = Some(0);
-    let mut told = false;
-    let mut last = true;
-    let mut rest = head;
-    let mut first = true;
-    for _ in 0..head.len() {
-        let Some((line, others)) = cut_at(LINE_FEED, rest) else {
-            break;
-        };
-        rest = others;
-        if first && !is_empty_line(line) {
-            first = false;
-            last = says_old_version(line);
-            continue;
-        }
-        match cut_at(b':', line) {
-            None => {}
-            Some((name, value)) => {
-                if name.eq_ignore_ascii_case(b"content-length") {
-                    body = if told {
-                        None
-                    } else {
-                        read_digits(trimmed(value))
-                    };
-                    told = true;
-                }
-                if name.eq_ignore_ascii_case(b"transfer-encoding") {
-                    body = None;
-                    told = true;
-                }
-                if name.eq_ignore_ascii_case(b"connection") {
-                    last = last || says_close(value);
-                }
-            }
-        }
-    }
-    Behind { body, last }
-}
-
-// whether the line of a request ends with `HTTP/1.0`
-fn says_old_version(line: &[u8]) -> bool {
-    trimmed(line).ends_with(b"HTTP/1.0")
-}
-
-// whether one of the options is `close`
-fn says_close(options: &[u8]) -> bool {
-    let mut rest = options;
-    for _ in 0..options.len() {
-        match cut_at(b',', rest) {
-            Some((option, others)) => {
-                if trimmed(option).eq_ignore_ascii_case(b"close") {
-                    return true;
-                }
-                rest = others;
-            }
-            None => return trimmed(rest).eq_ignore_ascii_case(b"close"),
-        }
-    }
-    false
-}
-
-// without blanks at its ends
-fn trimmed(text: &[u8]) -> &[u8] {
-    text.trim_ascii()
 }

@@ -1,8 +1,9 @@
 //! The one place where the workers find their connections.
 
-ghost use Rattle.std.specs.Prelude.{◌≡◌, ◌==◌, if◌then◌else◌};
+ghost use Rattle.std.specs.Prelude.{◌≡◌, ◌==◌, [], length, take, if◌then◌else◌, IfSome};
 ghost use Rattle.std.specs.Net.Socket.{socket_ip};
-ghost use Rattle.client_hub.specs.Hub.{refusal_of, IsClientIp};
+ghost use Rattle.http_wire.specs.declared.limits.TheConstants.{HEAD_MAX};
+ghost use Rattle.client_hub.specs.Hub.{given_of, moment_or, refusal_of, IsClientGiven, IsClientIp, IsGivenWith};
 
 use crate::ahead::{Front, front_of};
 use crate::desk::Desk;
@@ -187,28 +188,24 @@ impl Hub {
         alloc: Global,
         parked: Parked,
         room: &mut Room,
-    ) -> Look {
+    ) -> Look
+        ensures { IsGivenWith parked (take HEAD_MAX parked.got.items) room.new result }
+    {
         room.hold(parked.got.as_slice());
         self.receive(rt, alloc, parked, room)
     }
 
     /// Accepts one connection, and reads of it.
-    pub fn accept<W: Wait + Clock>(&self, rt: &W, alloc: Global, room: &mut Room) -> Look {
+    pub fn accept<W: Wait + Clock>(&self, rt: &W, alloc: Global, room: &mut Room) -> Look
+        ensures { IsClientGiven result }
+    {
         match self.listener.accept() {
             Ok((stream, addr)) => {
                 let Some(token) = self.desk.lock(rt).lot.admit(stream.as_raw_fd()) else {
                     return Look::Nothing;
                 };
-                let parked = Parked {
-                    stream,
-                    ip: ip_of(addr),
-                    got: Vec::new(alloc),
-                    since: 0,
-                    born: 0,
-                    token,
-                };
                 room.clear();
-                self.receive(rt, alloc, parked, room)
+                self.receive(rt, alloc, accepted(alloc, stream, addr, token), room)
             }
             Err(error) => self.refused(rt, &error),
         }
@@ -216,7 +213,9 @@ impl Hub {
 
     // Goes on after an error of accepting. Where no descriptor or memory is left, nothing is accepted for a while, and others
     // wait in the epoll.
-    fn refused<W: Wait + Clock>(&self, rt: &W, error: &io::Error) -> Look {
+    fn refused<W: Wait + Clock>(&self, rt: &W, error: &io::Error) -> Look
+        ensures { IsClientGiven result }
+    {
         match refusal_of(error.raw_os_error().unwrap_or(0)) {
             Refusal::Fault => Look::Fault,
             Refusal::Full => {
@@ -238,7 +237,9 @@ impl Hub {
         alloc: Global,
         parked: Parked,
         room: &mut Room,
-    ) -> Look {
+    ) -> Look
+        ensures { IsGivenWith parked room.old room.new result }
+    {
         match room.fill(&parked.stream, false) {
             Moved::Some(_) => match front_of(room.bytes()) {
                 Front::Open => self.park_again(rt, alloc, parked, room),
@@ -254,32 +255,59 @@ impl Hub {
     /// Parks a connection with the bytes that stand in the room, in place of its own; closes it where there is no memory for
     /// them.
     pub fn park_again<W: Wait + Clock>(&self, rt: &W, alloc: Global, parked: Parked, room: &Room) {
-        let Parked {
-            stream,
-            ip,
-            got: _,
-            since,
-            born,
-            token,
-        } = parked;
-        let Ok(got) = Vec::from_slice(alloc, room.bytes()) else {
-            self.forget(rt, token);
-            return;
-        };
-        let now = clock_of(rt);
-        let born = if got.is_empty() { 0 } else { or_now(born, now) };
-        let since = or_now(since, now);
-        self.park(
-            rt,
-            Parked {
-                stream,
-                ip,
-                got,
-                since,
-                born,
-                token,
-            },
-        );
+        match copied(alloc, room) {
+            Some(got) => {
+                let now = clock_of(rt);
+                self.park(rt, parked_with(parked, got, now));
+            }
+            None => self.forget(rt, parked.token),
+        }
+    }
+}
+
+// a copy of the bytes of a room; none where there is no memory for them
+fn copied(alloc: Global, room: &Room) -> Option<Vec<u8>>
+    ensures { IfSome result (λ got. got.items ≡ room.now) }
+{
+    Vec::from_slice(alloc, room.bytes()).ok()
+}
+
+// the connection with these bytes of its next head in place of its own, as it is parked at this moment
+fn parked_with(parked: Parked, got: Vec<u8>, now: u64) -> Parked
+    ensures got { result.got ≡ got }
+    ensures since { result.since ≡ moment_or parked.since now }
+    ensures born { result.born ≡ (if length got.items == 0 then 0 else moment_or parked.born now) }
+    ensures others { (result.stream ≡ parked.stream) × (result.ip ≡ parked.ip) × (result.token ≡ parked.token) }
+{
+    let born = if got.is_empty() {
+        0
+    } else {
+        or_now(parked.born, now)
+    };
+    Parked {
+        stream: parked.stream,
+        ip: parked.ip,
+        got,
+        since: or_now(parked.since, now),
+        born,
+        token: parked.token,
+    }
+}
+
+// a connection that was accepted, with the address that came with it: nothing came of it yet
+fn accepted(alloc: Global, stream: TcpStream, addr: SocketAddr, token: u64) -> Parked
+    ensures ip { IsClientIp (socket_ip addr) result.ip }
+    ensures stream { result.stream ≡ stream }
+    ensures token { result.token ≡ token }
+    ensures nothing { (result.got.items ≡ []) × (result.since ≡ 0) × (result.born ≡ 0) }
+{
+    Parked {
+        stream,
+        ip: ip_of(addr),
+        got: Vec::new(alloc),
+        since: 0,
+        born: 0,
+        token,
     }
 }
 
@@ -298,12 +326,15 @@ fn refusal_of(error: i32) -> Refusal
 
 // this moment, or now where it is 0
 fn or_now(moment: u64, now: u64) -> u64
-    ensures { result ≡ (if moment == 0 then now else moment) }
+    ensures { result ≡ moment_or moment now }
 {
     if moment == 0 { now } else { moment }
 }
 
-fn given(parked: Parked) -> Look {
+// this connection, for a worker
+fn given(parked: Parked) -> Look
+    ensures { result ≡ given_of parked }
+{
     Look::Given(Taken {
         stream: parked.stream,
         ip: parked.ip,

@@ -3,6 +3,7 @@
 #![tactic(auto)]
 
 mod ahead;
+mod behind;
 mod desk;
 mod hub;
 pub mod numbers;
@@ -10,7 +11,8 @@ mod parked;
 mod post;
 mod watch;
 
-pub use ahead::{Behind, Front, front_of, what_follows};
+pub use ahead::{Front, front_of};
+pub use behind::{Behind, what_follows};
 pub use desk::{Stance, Task};
 pub use hub::{Hub, Look, Taken};
 pub use parked::Parked;

@@ -1,6 +1,6 @@
 -- The bytes of a room, in the vector that has them.
-use Rattle.std.proofs.Common.{◌≡◌, ℕ, ◌+◌, ◌-◌, ◌≤◌, min, List, ◌++◌, length, take, drop, refl, sym, ◌∙◌, ap, subst, arith, append_assoc, length-append}
-use Rattle.std.proofs.Math.Seq.{take-append-add, take-length}
+use Rattle.std.proofs.Common.{◌≡◌, ℕ, ◌+◌, ◌-◌, ◌≤◌, min, List, ◌++◌, length, take, drop, sym, ◌∙◌, ap, subst, arith, append_assoc, length-append}
+use Rattle.std.proofs.Math.Seq.{take-append-add}
 use Rattle.sockets.specs.Ready.{IsMoved}
 use Rattle.sockets.specs.declared.ready.Moved.{Moved}
 use Rattle.sockets.specs.declared.ready.Moved.TheVariants as moved
@@ -35,3 +35,19 @@ fills from to n len items buf behind rest old got order there long room some mov
       filled from to n len items buf behind rest order (omega (arith, there, long)) came (omega (arith, came, least, there)) ∙ ap (λ (l : List ℕ). l ++ take n buf) was,
       length-take-le n buf came,
     )
+
+-- bytes that were put in front are those that stand there, as many as there is room for
+pub held : (most count len : ℕ) (bytes buf old rest : List ℕ) → count ≡ min (length bytes) most → len ≡ most → buf ≡ take count bytes ++ drop (length (take count bytes)) old
+    → take count (take len (buf ++ rest)) ≡ take most bytes
+held most count len bytes buf old rest is long put =
+    let front = take count bytes in
+    let size : length front ≡ count = length-take-le count bytes (omega (arith, is)) in
+    let behind = drop (length front) old ++ rest in
+    let whole : buf ++ rest ≡ front ++ behind = ap (λ (l : List ℕ). l ++ rest) put ∙ append_assoc front (drop (length front) old) rest in
+    let swapped : min (length bytes) most ≡ min most (length bytes) = omega arith in
+    let there : count ≤ length (front ++ behind) = omega (arith, size, length-append front behind) in
+    ap (λ (l : List ℕ). take count (take len l)) whole
+    ∙ take_within count len (front ++ behind) (omega (arith, is, long)) there
+    ∙ take-append-le count front behind (omega (arith, size))
+    ∙ take_within count count bytes (omega arith) (omega (arith, is))
+    ∙ ap (λ (k : ℕ). take k bytes) (is ∙ swapped) ∙ take_min most bytes

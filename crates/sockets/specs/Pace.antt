@@ -1,5 +1,5 @@
 -- How slowly the bytes of one message may move.
-use Rattle.std.specs.Prelude.{ℕ, ◌+◌, ◌-◌, ◌*◌, ◌/◌, ◌<◌, min, Bool, true, false, ◌||◌, not, ◌==◌, if◌then◌else◌}
+use Rattle.std.specs.Prelude.{ℕ, ◌+◌, ◌-◌, ◌*◌, ◌/◌, min, ◌||◌, not, ◌==◌, if◌then◌else◌}
 use Rattle.sockets.specs.declared.pace.Pace.{Pace}
 use Rattle.sockets.specs.declared.pace.TheConstants.{STEP_BYTES}
 

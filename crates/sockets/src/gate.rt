@@ -1,23 +1,19 @@
 //! The gate to the origins over TCP.
 
-ghost use Rattle.std.specs.Prelude.{◌≡◌};
+ghost use Rattle.std.specs.Prelude.{◌≡◌, IfSome};
+ghost use Rattle.sockets.specs.Peer.{IsPeer};
+ghost use Rattle.upstream_http.specs.Exchange.{Answers, Sends};
+ghost use Rattle.upstream_http.specs.Request.{request_text};
 
-use crate::link::Link;
-use crate::origin_source::OriginSource;
-use crate::pace::Pace;
-use crate::ready::clock_of;
-use crate::sink::SocketSink;
+use crate::dial::{connect, origin_ends};
+use crate::peer::{Peer, peer_of};
 use crate::waits::Waits;
-use cdni_base::Endpoint;
-use std::alloc::{AllocError, Global};
-use std::net::{Ipv6Addr, Net, SocketAddr, TcpListener, TcpStream, ToSocketAddrs};
-use std::sync::Arc;
-use std::time::{Clock, Duration};
+use edge_base::{Sink, Source};
+use std::alloc::Global;
+use std::net::{Net, TcpListener, TcpStream};
+use std::time::Clock;
 use upstream_gate::{Ask, BODY_MAX, Gate, Outcome};
 use upstream_http::exchange;
-
-/// The port of an endpoint that names none (RFC 9110, section 4.2.1).
-const HTTP_PORT: u16 = 80;
 
 /// Asks origins over TCP, with a connection of its own for each exchange (RFC 9112, section 9.6). It does not tell its
 /// exchanges.
@@ -52,85 +48,34 @@ impl<N: Net<Listener = TcpListener, Stream = TcpStream> + Clock + Clone + Drop> 
         self.faults
     }
 
-    // a connection to the endpoint
-    fn connect(&self, endpoint: &Endpoint) -> Option<TcpStream> {
-        let port = endpoint.port.unwrap_or(HTTP_PORT);
-        let host = str::from_utf8(endpoint.host.bytes()).ok()?;
-        match bracketed(host) {
-            Some(inner) => {
-                let ip = inner.parse::<Ipv6Addr>().ok()?;
-                self.connect_each((ip, port))
-            }
-            None => self.connect_each((host, port)),
-        }
-    }
-
-    // a connection to the first address that takes one
-    fn connect_each<A: ToSocketAddrs>(&self, name: A) -> Option<TcpStream> {
-        let addrs = name.to_socket_addrs(&self.net).ok()?;
-        let mut left = self.waits.connect;
-        for addr in addrs {
-            if left == 0 {
-                return None;
-            }
-            let start = clock_of(&self.net);
-            match connect_within(&self.net, &addr, left) {
-                Some(stream) => return Some(stream),
-                None => {}
-            }
-            let took = clock_of(&self.net).saturating_sub(start);
-            left = left.saturating_sub(took.max(1));
-        }
-        None
-    }
-
     // makes the exchange
     fn ask(&self, alloc: Global, ask: &Ask) -> Outcome {
-        let Some(stream) = self.connect(&ask.endpoint) else {
+        let Some(peer) = peer_of_ask(ask) else {
             return Outcome::Failed;
         };
-        match self.ends(alloc, stream) {
-            Ok((mut source, mut sink)) => exchange(
-                alloc,
-                &mut source,
-                &mut sink,
-                ask,
-                BODY_MAX as u64,
-            ),
+        let Some(stream) = connect(&self.net, &self.waits, &peer) else {
+            return Outcome::Failed;
+        };
+        match origin_ends(alloc, &self.net, &self.waits, stream) {
+            Ok((mut source, mut sink)) => ask_over(alloc, &mut source, &mut sink, ask),
             Err(_) => Outcome::Memory,
         }
     }
-
-    // both ends of a connection
-    fn ends(
-        &self,
-        alloc: Global,
-        stream: TcpStream,
-    ) -> Result<(OriginSource<N>, SocketSink<N>), AllocError> {
-        let link = Arc::new(alloc, Link::new(stream))?;
-        let other = Arc::try_clone(&link)?;
-        let pace = Pace::of_origin(&self.waits);
-        let source = OriginSource::new(link, self.net.clone()?, pace);
-        let sink = SocketSink::new(other, self.net.clone()?, pace);
-        Ok((source, sink))
-    }
 }
 
-// what stands between brackets
-fn bracketed(host: &str) -> Option<&str> {
-    host.strip_prefix('[')?.strip_suffix(']')
+// the peer that an ask is for
+fn peer_of_ask(ask: &Ask) -> Option<Peer<'_>>
+    ensures { IfSome result (λ peer. IsPeer ask.now.endpoint.host ask.now.endpoint.port peer) }
+{
+    peer_of(ask.endpoint.host.bytes(), ask.endpoint.port)
 }
 
-// a connection to this address, within so many milliseconds
-fn connect_within<N: Net<Stream = TcpStream>>(
-    net: &N,
-    addr: &SocketAddr,
-    time: u64,
-) -> Option<TcpStream> {
-    match TcpStream::connect_timeout(net, addr, Duration::from_millis(time)) {
-        Ok(stream) => Some(stream),
-        Err(_) => None,
-    }
+// makes this exchange over both ends
+fn ask_over<S: Source, K: Sink>(alloc: Global, source: &mut S, sink: &mut K, ask: &Ask) -> Outcome
+    ensures sent { Sends (K.held sink.old) (K.held sink.new) (request_text ask.now) result }
+    ensures answer { Answers BODY_MAX (S.left source.old) (S.left source.new) result }
+{
+    exchange(alloc, source, sink, ask, BODY_MAX as u64)
 }
 
 impl<N: Net<Listener = TcpListener, Stream = TcpStream> + Clock + Clone + Drop> Gate

@@ -2,19 +2,24 @@
 //! gate to the origins.
 #![tactic(auto)]
 
+mod dial;
 mod gate;
 mod link;
 pub mod numbers;
 mod origin_source;
 mod pace;
+mod peer;
 mod ready;
 mod room;
 mod sink;
 mod waits;
 
+pub use dial::{connect, origin_ends};
 pub use gate::TcpGate;
 pub use link::Link;
+pub use origin_source::OriginSource;
 pub use pace::Pace;
+pub use peer::{Peer, PeerName, peer_of};
 pub use ready::{Moved, Woken, clock_of, read_within, wait_for_one, wait_for_two, write_within};
 pub use room::Room;
 pub use sink::SocketSink;

@@ -1,5 +1,7 @@
 //! One connection, which its source and its sink share.
 
+ghost use Rattle.std.specs.Prelude.{◌≡◌};
+
 use std::net::TcpStream;
 use std::sync::atomic::{AtomicU64, Ordering};
 
@@ -11,7 +13,10 @@ pub struct Link {
 }
 
 impl Link {
-    pub fn new(stream: TcpStream) -> Link {
+    /// One whose source gave no message yet.
+    pub fn new(stream: TcpStream) -> Link
+        ensures { result.stream ≡ stream }
+    {
         Link {
             stream,
             messages: AtomicU64::new(0),

@@ -10,10 +10,10 @@ use std::alloc::Global;
 use std::sync::Arc;
 use std::time::Clock;
 
-// Reads from a TCP connection. It does not tell what is left. A read past the pace fails, and a failed read counts a
-// fault.
+/// Reads from a TCP connection to an origin, or to another server that is asked like one. It does not tell what is left. A
+/// read past the pace fails, and a failed read counts a fault.
 #[derive(Drop)]
-pub(crate) struct OriginSource<C: Clock + Drop> {
+pub struct OriginSource<C: Clock + Drop> {
     link: Arc<Link, Global>,
     clock: C,
     pace: Pace,
@@ -23,7 +23,8 @@ pub(crate) struct OriginSource<C: Clock + Drop> {
 impl<C: Clock + Drop> OriginSource<C> {
     // a source that gave nothing yet
     pub(crate) fn new(link: Arc<Link, Global>, clock: C, pace: Pace) -> OriginSource<C>
-        ensures { result.faults ≡ 0 }
+        ensures faults { result.faults ≡ 0 }
+        ensures link { result.link ≡ link }
     {
         OriginSource {
             link,

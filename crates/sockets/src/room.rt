@@ -59,10 +59,12 @@ impl Room {
         self.to = 0;
     }
 
-    /// Has these bytes alone, as far as there is room.
-    pub fn hold(&mut self, bytes: &[u8]) {
+    /// Has these bytes alone, the first 16,384 of them.
+    pub fn hold(&mut self, bytes: &[u8])
+        ensures { self.new ≡ take HEAD_MAX bytes.now }
+    {
         let count = bytes.len().min(HEAD_MAX);
-        self.bytes[..count].copy_from_slice(&bytes[..count]);
+        put_front(&mut self.bytes[..], &bytes[..count]);
         self.from = 0;
         self.to = count;
     }
@@ -110,4 +112,12 @@ impl Room {
             self.from = 0;
         }
     }
+}
+
+// has these bytes in front of the others, in place of as many
+fn put_front(buf: &mut [u8], bytes: &[u8])
+    requires { length bytes.now ≤ length buf.old }
+    ensures { buf.new ≡ bytes.now ++ drop (length bytes.now) buf.old }
+{
+    buf[..bytes.len()].copy_from_slice(bytes);
 }

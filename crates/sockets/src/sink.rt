@@ -29,7 +29,8 @@ pub struct SocketSink<C: Clock + Drop> {
 impl<C: Clock + Drop> SocketSink<C> {
     /// A sink that took nothing yet.
     pub fn new(link: Arc<Link, Global>, clock: C, pace: Pace) -> SocketSink<C>
-        ensures { result.faults ≡ 0 }
+        ensures faults { result.faults ≡ 0 }
+        ensures link { result.link ≡ link }
     {
         SocketSink {
             link,

@@ -1,8 +1,10 @@
 //! The door over TCP.
 
-ghost use Rattle.std.specs.Prelude.{◌≡◌, ◌≤◌, IfOk, Some};
+ghost use Rattle.std.specs.Prelude.{◌≡◌, ◌≤◌, IfOk, IfSome, Some};
+ghost use Rattle.std.specs.Arc.{arc_value};
 ghost use Rattle.edge_base.specs.Causes.{Rose};
 ghost use Rattle.doors.specs.Door.{HaveNoFaults, IsFailed};
+ghost use Rattle.tcp_door.specs.Door.{GivesIp};
 
 use crate::sink::ClientSink;
 use crate::source::{Left, Run, SocketSource};
@@ -83,6 +85,7 @@ impl<W: Wait + Clock + Clone + Drop> TcpDoor<W> {
         ensures fresh { HaveNoFaults (λ source. source.faults) (λ sink. sink.sink.faults) result }
         ensures later { self.old.faults ≤ self.new.faults }
         ensures cause { IsFailed result → Rose self.old.faults self.new.faults }
+        ensures address { GivesIp (λ source. source.ip) result }
     {
         let mut room = match self.room.take() {
             Some(room) => room,
@@ -136,7 +139,11 @@ impl<W: Wait + Clock + Clone + Drop> TcpDoor<W> {
         taken: Taken,
         room: Room,
     ) -> Result<(SocketSource<W>, ClientSink<W>), AllocError>
-        ensures { IfOk result (λ ends. (ends.0.faults ≡ 0) × (ends.1.sink.faults ≡ 0)) }
+        ensures faults { IfOk result (λ ends. (ends.0.faults ≡ 0) × (ends.1.sink.faults ≡ 0)) }
+        ensures client { IfOk result (λ ends. (ends.0.ip ≡ taken.ip) × (ends.0.token ≡ taken.token)) }
+        ensures room { IfOk result (λ ends. ends.0.room ≡ room) }
+        ensures source { IfOk result (λ ends. (arc_value ends.0.link).stream ≡ taken.stream) }
+        ensures sink { IfOk result (λ ends. (arc_value ends.1.sink.link).stream ≡ taken.stream) }
     {
         let Taken { stream, ip, token } = taken;
         let link = Arc::new(alloc, Link::new(stream))?;
@@ -163,13 +170,7 @@ impl<W: Wait + Clock + Clone + Drop> TcpDoor<W> {
             unread,
         } = source.into_left();
         drop(sink);
-        let Some(
-            Link {
-                stream,
-                messages: _,
-            },
-        ) = Arc::into_inner(link)
-        else {
+        let Some(stream) = stream_of(link) else {
             self.hub.forget(&self.rt, token);
             return room;
         };
@@ -192,6 +193,21 @@ impl<W: Wait + Clock + Clone + Drop> TcpDoor<W> {
         }
         room.clear();
         room
+    }
+}
+
+// the connection of both ends, where no other one has a share of it
+fn stream_of(link: Arc<Link, Global>) -> Option<TcpStream>
+    ensures { IfSome result (λ stream. stream ≡ (arc_value link).stream) }
+{
+    match Arc::into_inner(link) {
+        Some(
+            Link {
+                stream,
+                messages: _,
+            },
+        ) => Some(stream),
+        None => None,
     }
 }
 

@@ -1,6 +1,6 @@
 //! The source of a client's connection.
 
-ghost use Rattle.std.specs.Prelude.{◌≡◌, ◌-◌, ◌<◌, ◌≤◌, length, option_map, IfSome, Some};
+ghost use Rattle.std.specs.Prelude.{◌≡◌, ◌-◌, ◌<◌, ◌≤◌, length, nat_lt, option_map, if◌then◌else◌, IfSome, Some};
 ghost use Rattle.tcp_door.specs.Source.{IsPiece};
 ghost use Rattle.sockets.specs.Ready.{IsMoved};
 
@@ -89,7 +89,10 @@ impl<W: Wait + Clock + Drop> SocketSource<W> {
         room: Room,
         pace: Pace,
     ) -> SocketSource<W>
-        ensures { result.faults ≡ 0 }
+        ensures faults { result.faults ≡ 0 }
+        ensures client { (result.ip ≡ ip) × (result.token ≡ token) }
+        ensures link { result.link ≡ link }
+        ensures room { result.room ≡ room }
     {
         SocketSource {
             hub,
@@ -117,7 +120,13 @@ impl<W: Wait + Clock + Drop> SocketSource<W> {
     }
 
     // what is left of it where it is closed
-    pub(crate) fn into_left(self) -> Left {
+    pub(crate) fn into_left(self) -> Left
+        ensures client { (result.ip ≡ self.ip) × (result.token ≡ self.token) }
+        ensures moments { (result.since ≡ self.since) × (result.born ≡ self.born) }
+        ensures link { result.link ≡ self.link }
+        ensures room { result.room ≡ self.room }
+        ensures run { result.run ≡ (if nat_lt 0 self.faults then Run.Over else self.run) }
+    {
         let unread = !self.last || self.body != Some(0) || !self.room.bytes().is_empty();
         let run = if self.faults > 0 { Run::Over } else { self.run };
         let SocketSource {

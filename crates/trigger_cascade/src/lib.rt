@@ -18,4 +18,5 @@ pub use cdn::{Cdn, Standing};
 pub use far::{Far, far_of};
 pub use link::{Link, LinkCall, Polled, PolledList, Posted, PostedList};
 pub use memory_link::MemoryLink;
+pub use order::http_target;
 pub use task::Task;

@@ -147,8 +147,11 @@ fn provider_in(alloc: Global, text: &[u8]) -> Result<Option<ProviderId>, AllocEr
     }
 }
 
-// the target of an absolute URL of the scheme `http`
-fn http_target(alloc: Global, url: &[u8]) -> Result<Option<Target>, AllocError>
+/// The target of an absolute URL of the scheme `http` (RFC 9110, section 4.2.1); none where the text is no such URL.
+///
+/// # Errors
+/// Want of memory.
+pub fn http_target(alloc: Global, url: &[u8]) -> Result<Option<Target>, AllocError>
     ensures { IfOk result (λ target. target ≡ http_target url.now) }
 {
     if !is_http(url) {

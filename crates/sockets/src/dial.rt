@@ -56,7 +56,8 @@ fn connect_each<N: Net<Listener = TcpListener, Stream = TcpStream> + Clock, A: T
 // the addresses of a name
 fn addrs_of<N: Net, A: ToSocketAddrs>(net: &N, name: &A) -> Option<A::Iter>
     ensures gives { IfSome result (λ addrs. A.to_socket_addrs_gives name.now (Ok addrs)) }
-    ensures ends { IfSome result (λ addrs. A.Iter.Iterator.can_next addrs × IsFinite (A.Iter.Iterator.remaining addrs)) }
+    ensures ends { IfSome result (λ addrs.
+        A.Iter.Iterator.can_next addrs × IsFinite (A.Iter.Iterator.remaining addrs)) }
 {
     name.to_socket_addrs(net).ok()
 }

@@ -60,7 +60,8 @@ fn name_of(host: &str) -> Option<PeerName<'_>>
 
 // what stands between brackets
 fn bracketed(host: &str) -> Option<&str>
-    ensures { MatchOption result ((inner : List ℕ) → host.now ≢ bracketed inner) (λ inner. host.now ≡ bracketed inner.now) }
+    ensures { MatchOption result ((inner : List ℕ) → host.now ≢ bracketed inner)
+        (λ inner. host.now ≡ bracketed inner.now) }
 {
     match host.strip_prefix('[') {
         Some(rest) => rest.strip_suffix(']'),

@@ -201,12 +201,15 @@ FAULTS = [
         "a refresh is never stale",
         "delivery_law",
         "IsUntouched",
-        [(REPLY, "fresh_reply w refresh (first_hit w.delivering.starts begun.at tree.resources)", "fresh_reply w refresh None")],
+        [
+            (REPLY, "fresh_reply w refresh (first_hit w.delivering.starts begun.at tree.resources)", "fresh_reply w refresh None"),
+            (CASES, "fresh_by (first_hit w.delivering.starts begun.at tree.resources)", "fresh_by None"),
+        ],
     ),
     (
         "an older refresh is installed",
-        "delivery_law",
-        "the latest is installed",
+        "history",
+        "the_installed_refresh_never_falls",
         [(REPLY, "install_reply installed (Some refresh) = reply.Older refresh", "install_reply installed (Some refresh) = reply.Installed (installed + 1)")],
     ),
     (

@@ -45,14 +45,14 @@ def answer(connection, port):
         # port 8003 closes without a byte
 
 
-def listen(port):
-    server = socket.create_server(("127.0.0.1", port))
+def listen(server, port):
     while True:
         threading.Thread(target=answer, args=(server.accept()[0], port)).start()
 
 
 for port in 8000, 8001, 8002, 8003, 8004:
-    threading.Thread(target=listen, args=(port,)).start()
+    server = socket.create_server(("127.0.0.1", port))
+    threading.Thread(target=listen, args=(server, port)).start()
 FAR
 node() {
     "$cdnid" serve --listen "127.0.0.$1:80" --control "127.0.0.$1" --cdn-id "$2" --metadata http://127.0.0.1:8000/index 2> "$room/node-$1.log" &
@@ -60,8 +60,13 @@ node() {
 node 2 AS64496:0
 node 3 AS64501:0
 node 4 AS64502:0
-for _ in 1 2 3 4 5 6 7 8 9 10; do
-    curl -s -o /dev/null http://127.0.0.2/triggers && curl -s -o /dev/null http://127.0.0.3/triggers && curl -s -o /dev/null http://127.0.0.4/triggers && break
+# whether all three nodes answer, and what stands in for far CDNs listens at its last port
+listens() {
+    curl -s -o /dev/null http://127.0.0.2/triggers && curl -s -o /dev/null http://127.0.0.3/triggers &&
+        curl -s -o /dev/null http://127.0.0.4/triggers && (exec 3<>/dev/tcp/127.0.0.1/8004) 2>/dev/null
+}
+for _ in $(seq 100); do
+    listens && break
     sleep 0.3
 done
 failed=0

@@ -209,7 +209,7 @@ FAULTS = [
     (
         "an older refresh is installed",
         "history",
-        "the_installed_refresh_never_falls",
+        "a lemma below the laws; by reading the_installed_refresh_never_falls",
         [(REPLY, "install_reply installed (Some refresh) = reply.Older refresh", "install_reply installed (Some refresh) = reply.Installed (installed + 1)")],
     ),
     (

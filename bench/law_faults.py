@@ -68,7 +68,7 @@ FAULTS = [
         "a log file is read without its rows",
         "record_law",
         "WasCut.reads",
-        [(REPLY, "origin = origin }) file.rows)", "origin = origin }) [])")],
+        [(REPLY, "(file_text (file_head heading file.number file.moment) file.rows)", "(file_text (file_head heading file.number file.moment) [])")],
     ),
     (
         "a Cut of no rows makes a file",
@@ -165,7 +165,7 @@ FAULTS = [
         "kept_law",
         "GivesObject.whole",
         [
-            (AFTER, "    used (key_at (index_of w.delivering) asked.target) w.delivering.kept", "    w.delivering.kept"),
+            (AFTER, "    used (key_at (index_of w.delivering) request.asked.target) w.delivering.kept", "    w.delivering.kept"),
             (ENTRIES, "moved_ones (is_of _) w.delivering.kept (same stays)", "same stays"),
         ],
     ),

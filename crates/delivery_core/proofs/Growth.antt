@@ -1,10 +1,9 @@
 -- What a request adds to the counts of the edge.
 use Rattle.std.proofs.Common.{◌≡◌, ℕ, ◌+◌, ◌≤◌, ◌==◌, Bool, true, false, cond, refl, arith, None, Some}
 use Rattle.std.proofs.lemmas.Bool.{eqb-false}
-use Rattle.cdni_base.specs.declared.asked.Asked.{Asked}
 use Rattle.history.specs.After.{admission, opened_by}
+use Rattle.history.specs.Event.{Request}
 use Rattle.history.specs.declared.begun.Admission.{Admission}
-use Rattle.location_acl.specs.declared.footprint.Place.{Place}
 use Rattle.delivery_core.specs.Edge.{EdgeView, admit_after, admit_after_by, admit_reply, admit_reply_by, decision_of, entered, entered_reply, pending}
 use Rattle.delivery_core.specs.Traces.{reply_of}
 use Rattle.delivery_core.specs.declared.decision.Decision.{Decision}
@@ -38,6 +37,6 @@ module _ (edge : EdgeView) (opened : ℕ) where
   admit_grows_by pass what n d false true is = same_grows
   admit_grows_by pass what n d false false is = entered_grows pass what d is
 
-  pub admit_grows : (pass : ℕ) (asked : Asked) (place : Place) (moment : ℕ)
-      → Grows edge (admit_after edge pass opened asked place moment) opened (opened_by (reply_of (admit_reply edge opened asked place moment)))
-  admit_grows pass asked place moment = admit_grows_by pass (admission asked place moment None false) (pending edge) (decision_of edge asked place moment) (pending edge == edge.limits.rows) (opened == edge.limits.opened) refl
+  pub admit_grows : (pass : ℕ) (request : Request) (moment : ℕ)
+      → Grows edge (admit_after edge pass opened request moment) opened (opened_by (reply_of (admit_reply edge opened request.asked request.place moment)))
+  admit_grows pass request moment = admit_grows_by pass (admission request moment None false) (pending edge) (decision_of edge request.asked request.place moment) (pending edge == edge.limits.rows) (opened == edge.limits.opened) refl

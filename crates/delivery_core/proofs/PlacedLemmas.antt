@@ -48,7 +48,7 @@ module _ (w : World) (placed : IsPlaced w) where
   Fetches e r = All Placed (fetches_after w e r)
 
   fetches_placed : (e : Entry) → Fetches e (reply_in w e)
-  fetches_placed (pass, Admit asked place moment) = admit_cases w pass asked place moment (Fetches (pass, Admit asked place moment))
+  fetches_placed (pass, Admit request moment) = admit_cases w pass request moment (Fetches (pass, Admit request moment))
       (λ n. old_fetches) (λ rule. old_fetches) (λ kept is. old_fetches) (λ is. All-push Placed fetches _ old_fetches (omega arith))
   fetches_placed (pass, FetchEnd fetch outcome moment) = All-filter _ Placed fetches old_fetches
   fetches_placed (pass, Advance id moment) = advance_cases w pass (Fetches (pass, Advance id moment))
@@ -85,7 +85,7 @@ module _ (w : World) (placed : IsPlaced w) where
   refreshes_placed (pass, Advance id moment) = advance_cases w pass (Refreshes (pass, Advance id moment))
       (λ n. old_refreshes) (λ status. old_refreshes) (λ by. old_refreshes) (λ n. old_refreshes) old_refreshes
       (All-push Placed refreshes _ old_refreshes (omega arith)) (λ n. old_refreshes) (λ target. old_refreshes) id moment old_refreshes
-  refreshes_placed (pass, Admit asked place moment) = old_refreshes
+  refreshes_placed (pass, Admit request moment) = old_refreshes
   refreshes_placed (pass, FetchEnd fetch outcome moment) = old_refreshes
   refreshes_placed (pass, Finish delivery status total entity moment) = old_refreshes
   refreshes_placed (pass, Command spec moment) = old_refreshes
@@ -126,7 +126,7 @@ module _ (w : World) (placed : IsPlaced w) where
       (λ n. old_starts) (λ status. old_starts) (λ by. old_starts) (λ n. old_starts)
       (All-append Began starts (option_to_list (start_of w id)) old_starts (start_found (trigger_of id w.controlling.triggers)))
       old_starts (λ n. old_starts) (λ target. old_starts) id moment old_starts
-  starts_placed (pass, Admit asked place moment) = old_starts
+  starts_placed (pass, Admit request moment) = old_starts
   starts_placed (pass, FetchEnd fetch outcome moment) = old_starts
   starts_placed (pass, Finish delivery status total entity moment) = old_starts
   starts_placed (pass, RefreshBegin moment) = old_starts
@@ -167,7 +167,7 @@ module _ (w : World) (placed : IsPlaced w) where
   tree_placed (pass, RefreshEnd refresh None moment) = old_tree
   tree_placed (pass, RefreshBegin moment) = old_tree
   tree_placed (pass, Advance id moment) = old_tree
-  tree_placed (pass, Admit asked place moment) = old_tree
+  tree_placed (pass, Admit request moment) = old_tree
   tree_placed (pass, FetchEnd fetch outcome moment) = old_tree
   tree_placed (pass, Finish delivery status total entity moment) = old_tree
   tree_placed (pass, Command spec moment) = old_tree

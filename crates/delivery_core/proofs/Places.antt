@@ -1,11 +1,10 @@
 -- What a call adds to what is open.
 use Rattle.std.proofs.Common.{◌≡◌, ℕ, ◌+◌, ◌≤◌, [], ◌∷◌, true, false, arith, None, Some, Option}
 use Rattle.std.proofs.lemmas.List.{length-append}
-use Rattle.cdni_base.specs.declared.asked.Asked.{Asked}
 use Rattle.history.specs.After.{admission}
+use Rattle.history.specs.Event.{Request}
 use Rattle.history.specs.declared.begun.Admission.{Admission}
 use Rattle.history.specs.declared.reply.Reply.{Reply}
-use Rattle.location_acl.specs.declared.footprint.Place.{Place}
 use Rattle.delivery_core.specs.Edge.{EdgeView, admit_after, admit_after_by, admit_reply, admit_reply_by, begin_after, decision_of, entered, entered_reply, full_count}
 use Rattle.delivery_core.specs.OpenCount.{begun_count, open_count}
 use Rattle.delivery_core.specs.Traces.{reply_of}
@@ -29,10 +28,10 @@ module _ (edge : EdgeView) (pass : ℕ) where
   admitted_places what d (Some count) = omega arith
   admitted_places what d None = entered_places what d
 
-  pub admit_places : (edge' : EdgeView) (opened : ℕ) (asked : Asked) (place : Place) (moment : ℕ) (a : Admitted) (r : Reply) → a ≡ admit_reply edge opened asked place moment
-      → edge' ≡ admit_after edge pass opened asked place moment → r ≡ reply_of a → open_count edge' ≤ open_count edge + begun_count r
-  admit_places edge' opened asked place moment a r is left answer =
-      rw (left, answer, is) (admitted_places (admission asked place moment None false) (decision_of edge asked place moment) (full_count edge opened))
+  pub admit_places : (edge' : EdgeView) (opened : ℕ) (request : Request) (moment : ℕ) (a : Admitted) (r : Reply) → a ≡ admit_reply edge opened request.asked request.place moment
+      → edge' ≡ admit_after edge pass opened request moment → r ≡ reply_of a → open_count edge' ≤ open_count edge + begun_count r
+  admit_places edge' opened request moment a r is left answer =
+      rw (left, answer, is) (admitted_places (admission request moment None false) (decision_of edge request.asked request.place moment) (full_count edge opened))
 
   pub due_places : (edge' : EdgeView) (moment refresh : ℕ) → edge' ≡ begin_after edge pass moment (began.Due refresh) → open_count edge' ≤ open_count edge + 1
   due_places edge' moment refresh left = rw left (omega (arith, length-append edge.refreshes (record { number = refresh; pass = pass; what = record { moment = moment; since = [] } } ∷ [])))

@@ -8,9 +8,7 @@ use Rattle.std.proofs.lemmas.List.Elements.{All-head, All-tail, All-weaker, filt
 use Rattle.std.proofs.lemmas.List.Folds.{find-append, list_any-append}
 use Rattle.std.proofs.lemmas.Option.{none-some}
 use Rattle.cdni_base.specs.Key.{KeyParts}
-use Rattle.cdni_base.specs.declared.asked.Asked.{Asked}
 use Rattle.cdni_base.specs.declared.rule.Rule.{Rule}
-use Rattle.location_acl.specs.declared.footprint.Place.{Place}
 use Rattle.metadata_objects.specs.LevelData.{Index}
 use Rattle.metadata_objects.specs.Tree.{TreeData}
 use Rattle.metadata_objects.specs.declared.generic.Generic.{Generic}
@@ -29,7 +27,7 @@ use Rattle.trigger_status.specs.declared.job.JobStatus.{JobStatus}
 use Rattle.upstream_gate.specs.declared.outcome.Outcome.{Outcome}
 use Rattle.cdni_log.specs.declared.row.Row.{Row}
 use Rattle.history.specs.After.{admission, after, after_reply, closed, fetching, installed_by, new_rows, opened_by, position, recorded, row_of, start_by, start_of}
-use Rattle.history.specs.Event.{Event, Admit, FetchEnd, Finish, RefreshBegin, RefreshEnd, Command, Advance, Cancel, Delete, ReadStatus, Lists, Cut, DropLog, LogFile, ListLogs}
+use Rattle.history.specs.Event.{Event, Request, Admit, FetchEnd, Finish, RefreshBegin, RefreshEnd, Command, Advance, Cancel, Delete, ReadStatus, Lists, Cut, DropLog, LogFile, ListLogs}
 use Rattle.history.specs.Kept.{is_hit_since, kept_of, unhit as unhit_since, used, with_gained}
 use Rattle.history.specs.Metadata.{ccid_at, forbidden, is_skipped, key_at, key_by, objects_of, plan_at}
 use Rattle.history.specs.Reply as replies
@@ -180,7 +178,7 @@ refreshes_push w placed pass refresh moment =
 
 -- ---- a request
 
-module _ (w : World) (pass : ℕ) (asked : Asked) (place : Place) (moment : ℕ) where
+module _ (w : World) (pass : ℕ) (request : Request) (moment : ℕ) where
   abbrev v : EdgeView
   v = edge_of w
 
@@ -191,25 +189,25 @@ module _ (w : World) (pass : ℕ) (asked : Asked) (place : Place) (moment : ℕ)
   invalid = steps.invalid_of w.delivering
 
   abbrev rule : Option Rule
-  rule = forbidden index invalid asked place moment
+  rule = forbidden index invalid request.asked request.place moment
 
   -- what is decided of it, by what the history has left
   abbrev taken : Decision
-  taken = decided index v.kept asked.target rule
+  taken = decided index v.kept request.asked.target rule
 
-  taken_is : decision_of v asked place moment ≡ taken
+  taken_is : decision_of v request.asked request.place moment ≡ taken
   taken_is =
-      ap (λ i. decided i v.kept asked.target (forbidden i (invalid_of v) asked place moment)) (index_is w)
-      ∙ ap (λ t. decided index v.kept asked.target (forbidden index t asked place moment)) (invalid_is w)
+      ap (λ i. decided i v.kept request.asked.target (forbidden i (invalid_of v) request.asked request.place moment)) (index_is w)
+      ∙ ap (λ t. decided index v.kept request.asked.target (forbidden index t request.asked request.place moment)) (invalid_is w)
 
-  found_is : (objects : List Generic) → objects ≡ objects_of index asked.target → (found : Option Kept)
-      → reply_of (entered_reply v (allowed_by objects asked.target found)) ≡ allowed_reply w asked found
-  found_is objects is None = ap (λ os. reply_of (entered_reply v (allowed_by os asked.target None))) is
+  found_is : (objects : List Generic) → objects ≡ objects_of index request.asked.target → (found : Option Kept)
+      → reply_of (entered_reply v (allowed_by objects request.asked.target found)) ≡ allowed_reply w request.asked found
+  found_is objects is None = ap (λ os. reply_of (entered_reply v (allowed_by os request.asked.target None))) is
   found_is objects is (Some kept) = refl
 
-  entered_is : (rule : Option Rule) → reply_of (entered_reply v (decided index v.kept asked.target rule)) ≡ judged_reply w asked rule
+  entered_is : (rule : Option Rule) → reply_of (entered_reply v (decided index v.kept request.asked.target rule)) ≡ judged_reply w request.asked rule
   entered_is (Some forbids) = refl
-  entered_is None = found_is (objects_of index asked.target) refl (kept_of (key_by (objects_of index asked.target) asked.target) w.delivering.kept)
+  entered_is None = found_is (objects_of index request.asked.target) refl (kept_of (key_by (objects_of index request.asked.target) request.asked.target) w.delivering.kept)
 
   pending_is : length (map unplaced w.delivering.deliveries) + length (map row_in w.delivering.unfiled) ≡ pending w.delivering
   pending_is = omega (arith, length-map w.delivering.deliveries unplaced, length-map w.delivering.unfiled row_in)
@@ -220,46 +218,46 @@ module _ (w : World) (pass : ℕ) (asked : Asked) (place : Place) (moment : ℕ)
   limited false true n d r is = refl
   limited false false n d r is = is
 
-  pub admit_replies : reply_of (admit_reply v w.counts.opened asked place moment) ≡ reply_in w (pass, Admit asked place moment)
+  pub admit_replies : reply_of (admit_reply v w.counts.opened request.asked request.place moment) ≡ reply_in w (pass, Admit request moment)
   unfolding reply_in
   admit_replies =
-      ap (λ n. reply_of (admit_reply_by v (decision_of v asked place moment) (cond (n == w.made.limits.rows) (Some n) (cond (w.counts.opened == w.made.limits.opened) (Some w.counts.opened) None)))) pending_is
+      ap (λ n. reply_of (admit_reply_by v (decision_of v request.asked request.place moment) (cond (n == w.made.limits.rows) (Some n) (cond (w.counts.opened == w.made.limits.opened) (Some w.counts.opened) None)))) pending_is
       ∙ limited (pending w.delivering == w.made.limits.rows) (w.counts.opened == w.made.limits.opened) (pending w.delivering) _ _
       (ap (λ d. reply_of (entered_reply v d)) taken_is ∙ entered_is rule)
 
-  found_after : IsPlaced w → (found : Option Kept) → edge_of (after_reply w (pass, Admit asked place moment) (allowed_reply w asked found)) ≡ entered v pass (admission asked place moment None false) (allowed_by (objects_of index asked.target) asked.target found)
+  found_after : IsPlaced w → (found : Option Kept) → edge_of (after_reply w (pass, Admit request moment) (allowed_reply w request.asked found)) ≡ entered v pass (admission request moment None false) (allowed_by (objects_of index request.asked.target) request.asked.target found)
   unfolding after_reply
   found_after placed None = ap (λ (lists : (List (Open Flight) × List (Open Admission)) × List Row). record v { fetches = lists.0.0; fetched = w.counts.fetched + 1; deliveries = lists.0.1; delivered = w.counts.delivered + 1; unfiled = lists.1 })
-      (pair_is (pair_is (flights_push w placed pass (fetching w asked.target)) (map-append unplaced w.delivering.deliveries _)) (same_rows w))
-  found_after placed (Some kept) = ap (λ (lists : List (Open Admission) × List Row). record v { kept = used (key_by (objects_of index asked.target) asked.target) w.delivering.kept; deliveries = lists.0; delivered = w.counts.delivered + 1; unfiled = lists.1 })
+      (pair_is (pair_is (flights_push w placed pass (fetching w request.asked.target)) (map-append unplaced w.delivering.deliveries _)) (same_rows w))
+  found_after placed (Some kept) = ap (λ (lists : List (Open Admission) × List Row). record v { kept = used (key_by (objects_of index request.asked.target) request.asked.target) w.delivering.kept; deliveries = lists.0; delivered = w.counts.delivered + 1; unfiled = lists.1 })
       (pair_is (map-append unplaced w.delivering.deliveries _) (same_rows w))
 
-  denied_after : (rule : Rule) → edge_of (after_reply w (pass, Admit asked place moment) (reply.Denied (w.counts.delivered + 1) rule)) ≡ entered v pass (admission asked place moment None false) (decision.Deny rule)
+  denied_after : (rule : Rule) → edge_of (after_reply w (pass, Admit request moment) (reply.Denied (w.counts.delivered + 1) rule)) ≡ entered v pass (admission request moment None false) (decision.Deny rule)
   unfolding after_reply
   denied_after forbids = ap (λ (lists : List (Open Admission) × List Row). record v { deliveries = lists.0; delivered = w.counts.delivered + 1; unfiled = lists.1 })
       (pair_is (map-append unplaced w.delivering.deliveries _) (same_rows w))
 
-  full_after : (n : ℕ) → edge_of (after_reply w (pass, Admit asked place moment) (reply.Full n)) ≡ v
+  full_after : (n : ℕ) → edge_of (after_reply w (pass, Admit request moment) (reply.Full n)) ≡ v
   unfolding after_reply
   full_after n = ap (λ rows. record v { unfiled = rows }) (same_rows w)
 
-  judged_after : IsPlaced w → (rule : Option Rule) → edge_of (after_reply w (pass, Admit asked place moment) (judged_reply w asked rule)) ≡ entered v pass (admission asked place moment None false) (decided index v.kept asked.target rule)
+  judged_after : IsPlaced w → (rule : Option Rule) → edge_of (after_reply w (pass, Admit request moment) (judged_reply w request.asked rule)) ≡ entered v pass (admission request moment None false) (decided index v.kept request.asked.target rule)
   judged_after placed (Some forbids) = denied_after forbids
-  judged_after placed None = found_after placed (kept_of (key_by (objects_of index asked.target) asked.target) w.delivering.kept)
+  judged_after placed None = found_after placed (kept_of (key_by (objects_of index request.asked.target) request.asked.target) w.delivering.kept)
 
-  limited_after : (full many : Bool) (n : ℕ) (d : Decision) (r : Reply) → edge_of (after_reply w (pass, Admit asked place moment) r) ≡ entered v pass (admission asked place moment None false) d
-      → edge_of (after_reply w (pass, Admit asked place moment) (cond full (reply.Full n) (cond many (reply.Full w.counts.opened) r)))
-      ≡ admit_after_by v pass (admission asked place moment None false) d (cond full (Some n) (cond many (Some w.counts.opened) None))
+  limited_after : (full many : Bool) (n : ℕ) (d : Decision) (r : Reply) → edge_of (after_reply w (pass, Admit request moment) r) ≡ entered v pass (admission request moment None false) d
+      → edge_of (after_reply w (pass, Admit request moment) (cond full (reply.Full n) (cond many (reply.Full w.counts.opened) r)))
+      ≡ admit_after_by v pass (admission request moment None false) d (cond full (Some n) (cond many (Some w.counts.opened) None))
   limited_after true many n d r is = full_after n
   limited_after false true n d r is = full_after w.counts.opened
   limited_after false false n d r is = is
 
-  pub admit_leaves : IsPlaced w → edge_of (after w (pass, Admit asked place moment)) ≡ admit_after v pass w.counts.opened asked place moment
+  pub admit_leaves : IsPlaced w → edge_of (after w (pass, Admit request moment)) ≡ admit_after v pass w.counts.opened request moment
   unfolding reply_in after
   admit_leaves placed =
       limited_after (pending w.delivering == w.made.limits.rows) (w.counts.opened == w.made.limits.opened) (pending w.delivering) taken _ (judged_after placed rule)
-      ∙ sym (ap (λ d. admit_after_by v pass (admission asked place moment None false) d (cond (pending w.delivering == w.made.limits.rows) (Some (pending w.delivering)) (cond (w.counts.opened == w.made.limits.opened) (Some w.counts.opened) None))) taken_is)
-      ∙ sym (ap (λ n. admit_after_by v pass (admission asked place moment None false) (decision_of v asked place moment) (cond (n == w.made.limits.rows) (Some n) (cond (w.counts.opened == w.made.limits.opened) (Some w.counts.opened) None))) pending_is)
+      ∙ sym (ap (λ d. admit_after_by v pass (admission request moment None false) d (cond (pending w.delivering == w.made.limits.rows) (Some (pending w.delivering)) (cond (w.counts.opened == w.made.limits.opened) (Some w.counts.opened) None))) taken_is)
+      ∙ sym (ap (λ n. admit_after_by v pass (admission request moment None false) (decision_of v request.asked request.place moment) (cond (n == w.made.limits.rows) (Some n) (cond (w.counts.opened == w.made.limits.opened) (Some w.counts.opened) None))) pending_is)
 
 -- ---- the end of a fetch
 

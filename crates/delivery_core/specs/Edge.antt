@@ -18,6 +18,7 @@ use Rattle.trigger_command.specs.declared.selection.Selection.{Selection}
 use Rattle.upstream_gate.specs.declared.outcome.Outcome.{Outcome}
 use Rattle.verdict.specs.Plan.{plan_of}
 use Rattle.history.specs.After.{admission}
+use Rattle.history.specs.Event.{Request}
 use Rattle.history.specs.Kept.{kept_of, used}
 use Rattle.history.specs.Metadata.{ccid_at, forbidden, is_skipped, key_at, key_by, objects_of, plan_at}
 use Rattle.history.specs.World.{Kept}
@@ -162,9 +163,9 @@ abbrev pub admit_after_by : EdgeView → ℕ → Admission → Decision → Opti
 admit_after_by v pass what decision (Some count) = v
 admit_after_by v pass what decision None = entered v pass what decision
 
-abbrev pub admit_after : EdgeView → ℕ → ℕ → Asked → Place → ℕ → EdgeView
-admit_after v pass opened asked place moment = admit_after_by v pass (admission asked place moment None false)
-    (decision_of v asked place moment) (full_count v opened)
+abbrev pub admit_after : EdgeView → ℕ → ℕ → Request → ℕ → EdgeView
+admit_after v pass opened request moment = admit_after_by v pass (admission request moment None false)
+    (decision_of v request.asked request.place moment) (full_count v opened)
 
 -- ---- the end of a fetch
 

@@ -3,6 +3,7 @@
 ghost use Rattle.std.specs.Prelude.{◌≡◌, ◌≤◌, ◌<◌, ◌^◌, ◌+◌, ◌-◌, ◌++◌, ◌∷◌, [], Ok, IfOk, IfNone, OnErr, OnOk, OnSome, None, false, true, is_some, MatchOption, length, option_map};
 ghost use Rattle.std.specs.List.{find};
 ghost use Rattle.history.specs.After.{admission, is_secure, row_of};
+ghost use Rattle.history.specs.Event.{request_of};
 ghost use Rattle.history.specs.Kept.{kept_of, total};
 ghost use Rattle.metadata_objects.specs.Tree.{tree_view};
 ghost use Rattle.shelf.specs.KeptShelf.{IsPartOf, IsPartOfOrKept};
@@ -18,7 +19,7 @@ use crate::records::{Ending, Records};
 use crate::refreshes::{Ended, Refreshes};
 use crate::results::{Admitted, Began, Planned, RefreshEnded};
 use cdni_base::{Asked, EndpointList, Key, Limits, Moment, Protocol, Rule, Target, Text};
-use cdni_log::RowList;
+use cdni_log::{ExtraList, RowList};
 use history::{Admission, Fetching};
 use inheritance::Effective;
 use location_acl::Place;
@@ -108,8 +109,8 @@ impl Edge {
         })
     }
 
-    /// Takes in a request of a client at this place, where so many answers have opened something. It is refused where
-    /// the limit of deliveries or of such answers is reached, denied by the first rule that forbids it, a hit where an
+    /// Takes in a request of a client at this place, with what its record has of its header fields, where so many
+    /// answers have opened something. It is refused where the limit of deliveries or of such answers is reached, denied by the first rule that forbids it, a hit where an
     /// object of its key is kept, and else a miss, whose fetch begins.
     ///
     /// # Errors
@@ -121,12 +122,14 @@ impl Edge {
         opened: u64,
         asked: Asked,
         place: Place,
+        extra: ExtraList,
         moment: Moment,
     ) -> Result<Admitted, AllocError>
         requires delivered { self.old.seen.delivered ≤ 2 ^ 62 }
         requires fetched { self.old.seen.fetched ≤ 2 ^ 62 }
         ensures reply { IfOk result (λ r. r ≡ admit_reply self.old.seen opened asked place moment) }
-        ensures after { IfOk result (λ r. self.new.seen ≡ admit_after self.old.seen pass opened asked place moment) }
+        ensures after { IfOk result (λ r. self.new.seen
+            ≡ admit_after self.old.seen pass opened (request_of asked place extra) moment) }
         ensures held { IsPartOf self.new.held self.old.held }
         ensures err { OnErr result (self.new ≡ self.old) }
     {
@@ -135,7 +138,7 @@ impl Edge {
         }
         self.make_table(alloc)?;
         let decision = self.decide(alloc, &asked, &place, moment)?;
-        let what = admission_of(alloc, asked, place, moment)?;
+        let what = admission_of(alloc, asked, place, extra, moment)?;
         self.enter(alloc, pass, what, decision)
     }
 
@@ -656,9 +659,10 @@ fn admission_of(
     alloc: Global,
     asked: Asked,
     place: Place,
+    extra: ExtraList,
     moment: Moment,
 ) -> Result<Admission, AllocError>
-    ensures { IfOk result (λ what. what ≡ admission asked place moment None false) }
+    ensures { IfOk result (λ what. what ≡ admission (request_of asked place extra) moment None false) }
 {
     let uri = asked.target.url_text(alloc, is_secure(asked.protocol))?;
     Ok(Admission {
@@ -668,6 +672,7 @@ fn admission_of(
         uri,
         ccid: None,
         cached: false,
+        extra,
     })
 }
 
@@ -682,6 +687,7 @@ fn of_collection(what: Admission, ccid: Option<Text>, cached: bool) -> Admission
         uri: what.uri,
         ccid,
         cached,
+        extra: what.extra,
     }
 }
 

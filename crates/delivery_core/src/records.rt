@@ -229,5 +229,6 @@ fn finished_row(what: Admission, ending: Ending) -> cdni_log::Row
         entity: ending.entity,
         ccid: what.ccid,
         cached: what.cached,
+        extra: what.extra,
     }
 }

@@ -4,11 +4,9 @@ use Rattle.std.specs.List.{filter, find, list_any}
 use Rattle.std.specs.Option.{option_map, option_to_list}
 use Rattle.std.proofs.lemmas.Bool.{cases_Bool, cond-true, cond-false, both_ways, or_parts}
 use Rattle.std.proofs.lemmas.List.{append-nil}
-use Rattle.cdni_base.specs.declared.asked.Asked.{Asked}
-use Rattle.location_acl.specs.declared.footprint.Place.{Place}
 use Rattle.history.proofs.Cases.{admit_cases, advance_cases, begin_cases, cancel_cases, command_cases, cut_cases, delete_cases, drop_cases, fetch_end_cases, list_cases, log_cases, logs_cases, refresh_end_cases, status_cases}
 use Rattle.history.specs.After.{admission, after, after_reply, begun_delivery, closed, deliveries_after, delivery_begun, logged_row, position, recorded, rows_after}
-use Rattle.history.specs.Event.{Entry, Admit, FetchEnd, Finish, RefreshBegin, RefreshEnd, Command, Advance, Cancel, Delete, ReadStatus, Lists, Cut, LogFile, ListLogs, DropLog}
+use Rattle.history.specs.Event.{Entry, Admit, FetchEnd, Finish, RefreshBegin, RefreshEnd, Command, Advance, Cancel, Delete, ReadStatus, Lists, Cut, LogFile, ListLogs, DropLog, Request}
 use Rattle.history.specs.Reply.{finish_reply, reply_in}
 use Rattle.history.specs.Steps.{index_of}
 use Rattle.history.specs.World.{Begun, Recorded, World, is_open}
@@ -47,17 +45,16 @@ pub record Quiet (w : World) (r : Reply) (new : Books) : Type 0 where
 
 -- a delivery begins
 pub record Begins (w : World) (e : Entry) (r : Reply) (new : Books) : Type 0 where
-  pub asked : Asked
-  pub place : Place
+  pub request : Request
   pub moment : ℕ
-  pub event : e.1 ≡ Admit asked place moment
+  pub event : e.1 ≡ Admit request moment
   pub begun : begun_delivery r ≡ Some (w.counts.delivered + 1)
   pub more : new ≡ record {
     opened = w.delivering.deliveries ++ record {
       number = w.counts.delivered + 1;
       pass = e.0;
       at = position w;
-      what = admission asked place moment (named_ccid (index_of w.delivering) asked.target r) (was_kept r);
+      what = admission request moment (named_ccid (index_of w.delivering) request.asked.target r) (was_kept r);
     } ∷ [];
     rows = w.delivering.rows;
     delivered = w.counts.delivered + 1;
@@ -102,15 +99,14 @@ module _ (w : World) (e : Entry) where
     none = none;
   })
 
-module _ (w : World) (pass : ℕ) (asked : Asked) (place : Place) (moment : ℕ) where
+module _ (w : World) (pass : ℕ) (request : Request) (moment : ℕ) where
   abbrev admitted : Entry
-  admitted = (pass, Admit asked place moment)
+  admitted = (pass, Admit request moment)
 
   begins : (r : Reply) → begun_delivery r ≡ Some (w.counts.delivered + 1) → logged_row r ≡ None
-      → deliveries_after w admitted r ≡ delivery_begun w pass (w.counts.delivered + 1) (admission asked place moment (named_ccid (index_of w.delivering) asked.target r) (was_kept r)) → Changes w admitted r
+      → deliveries_after w admitted r ≡ delivery_begun w pass (w.counts.delivered + 1) (admission request moment (named_ccid (index_of w.delivering) request.asked.target r) (was_kept r)) → Changes w admitted r
   begins r number none same = inr (inl (record {
-    asked = asked;
-    place = place;
+    request = request;
     moment = moment;
     event = refl;
     begun = number;
@@ -124,7 +120,7 @@ module _ (w : World) (pass : ℕ) (asked : Asked) (place : Place) (moment : ℕ)
   }))
 
   admits : Changes w admitted (reply_in w admitted)
-  admits = admit_cases w pass asked place moment (Changes w admitted)
+  admits = admit_cases w pass request moment (Changes w admitted)
       (λ n. none_so w admitted (reply.Full n) refl refl)
       (λ rule. begins (reply.Denied (w.counts.delivered + 1) rule) refl refl refl)
       (λ kept is. begins (reply.Hit (w.counts.delivered + 1) kept.fetch kept.kind kept.body) refl refl refl)
@@ -184,7 +180,7 @@ module _ (w : World) (pass delivery status total entity moment : ℕ) where
   ]
 
 pub change : (w : World) (e : Entry) → Changes w e (reply_in w e)
-change w (pass, Admit asked place moment) = admits w pass asked place moment
+change w (pass, Admit request moment) = admits w pass request moment
 change w (pass, Finish delivery status total entity moment) = finishes w pass delivery status total entity moment
 change w (pass, FetchEnd fetch outcome moment) = fetch_end_cases w pass (Changes w (pass, FetchEnd fetch outcome moment)) fetch outcome moment
     (none_so w (pass, FetchEnd fetch outcome moment) _ refl refl)

@@ -33,7 +33,7 @@ use Rattle.verdict.specs.Plan.{plan_of}
 use Rattle.verdict.specs.Verdict.{NoneForbids, no_source}
 use Rattle.targets.specs.declared.endpoint.Endpoint.{Endpoint}
 use Rattle.history.proofs.Cases.{either, opening_cases}
-use Rattle.history.specs.Event.{History, Admit}
+use Rattle.history.specs.Event.{History, Admit, Request}
 use Rattle.history.specs.History.{reply_to, world_of}
 use Rattle.history.specs.Kept.{kept_of}
 use Rattle.history.specs.Metadata.{forbidden, is_served, key_at, rule_at, rule_by, rule_in}
@@ -155,20 +155,20 @@ module _ (objects : List Generic) (asked : Asked) (place : Place) (moment : ℕ)
 
 -- ---- all rules
 
-module _ (made : Made) (h : History) (asked : Asked) (place : Place) (moment : ℕ) where
+module _ (made : Made) (h : History) (request : Request) (moment : ℕ) where
   abbrev d : Delivering
   d = (world_of made h).delivering
 
   abbrev the_rule : Option Rule
-  the_rule = forbidden (index_of d) (invalid_of d) asked place moment
+  the_rule = forbidden (index_of d) (invalid_of d) request.asked request.place moment
 
   abbrev F : Rule → Type 0
-  F r = Forbids made h asked place moment r
+  F r = Forbids made h request moment r
 
   -- what the first rule that forbids says
   abbrev Told : Option Rule → Type 0
   Told None = (r : Rule) → F r → ⊥
-  Told (Some r) = IsFirstToForbid made h asked place moment r
+  Told (Some r) = IsFirstToForbid made h request moment r
 
   -- of the rules before the n-th none forbids
   record Free (n : ℕ) : Type 0 where
@@ -188,7 +188,7 @@ module _ (made : Made) (h : History) (asked : Asked) (place : Place) (moment : �
   free n none (rule.Protocol number) less is = let last = none.last in absurd (omega (arith, last, less))
   free n none rule.NoSource less is = let last = none.last in absurd (omega (arith, last, less))
 
-  module _ (served : is_served asked.method ≡ true) where
+  module _ (served : is_served request.asked.method ≡ true) where
     module _ (i : Installed) (is : d.tree ≡ Some i) where
       in_force : IsInForce made h i
       in_force = record { is = is; was = (metadata_law made h).tree i is }
@@ -205,29 +205,29 @@ module _ (made : Made) (h : History) (asked : Asked) (place : Place) (moment : �
         not_taken_back trigger (other, force, first) = none_to_hit made h i.at i.tree.resources trigger valid
             (subst (λ (x : Installed). IsFirstToHit made h x.at x.tree.resources trigger) (same_force other force) first)
 
-        module _ (arrays : List (List Generic)) (has : chain i.tree.index asked.target ≡ Some arrays) where
+        module _ (arrays : List (List Generic)) (has : chain i.tree.index request.asked.target ≡ Some arrays) where
           abbrev Judged : Rule → Type 0
-          Judged r = judged.Forbids (effective arrays) asked.protocol place moment r
+          Judged r = judged.Forbids (effective arrays) request.asked.protocol request.place moment r
 
           has_host : F rule.NoHost → ⊥
-          has_host (other, force, none) = none-some arrays (sym ((none_same i.tree.index asked.target).1
-              (subst (λ (x : Installed). NoneHolds (matches_target asked.target) x.tree.index) (same_force other force) none)) ∙ has)
+          has_host (other, force, none) = none-some arrays (sym ((none_same i.tree.index request.asked.target).1
+              (subst (λ (x : Installed). NoneHolds (matches_target request.asked.target) x.tree.index) (same_force other force) none)) ∙ has)
 
           -- what the objects forbid, of whatever metadata is installed
           abbrev ByObjects : Rule → Type 0
-          ByObjects r = (installed : Installed) × IsInForce made h installed × (all : List (List Generic)) × IsChain installed.tree.index asked.target all × judged.Forbids (effective all) asked.protocol place moment r
+          ByObjects r = (installed : Installed) × IsInForce made h installed × (all : List (List Generic)) × IsChain installed.tree.index request.asked.target all × judged.Forbids (effective all) request.asked.protocol request.place moment r
 
           by_objects : (r : Rule) → ByObjects r → Judged r
           by_objects r (other, force, all, chained, forbids) =
-              let same : all ≡ arrays = same_Some all arrays (sym ((chain_same i.tree.index asked.target all).1
-              (subst (λ (x : Installed). IsChain x.tree.index asked.target all) (same_force other force) chained)) ∙ has) in
-              subst (λ (x : List (List Generic)). judged.Forbids (effective x) asked.protocol place moment r) same forbids
+              let same : all ≡ arrays = same_Some all arrays (sym ((chain_same i.tree.index request.asked.target all).1
+              (subst (λ (x : Installed). IsChain x.tree.index request.asked.target all) (same_force other force) chained)) ∙ has) in
+              subst (λ (x : List (List Generic)). judged.Forbids (effective x) request.asked.protocol request.place moment r) same forbids
 
           of_objects : (r : Rule) → Judged r → ByObjects r
-          of_objects r forbids = (i, in_force, arrays, (chain_same i.tree.index asked.target arrays).0 has, forbids)
+          of_objects r forbids = (i, in_force, arrays, (chain_same i.tree.index request.asked.target arrays).0 has, forbids)
 
           judged_so : (r : Rule) → F r → Judged r
-          judged_so rule.Method is = method_allows asked.method served is
+          judged_so rule.Method is = method_allows request.asked.method served is
           judged_so rule.NoMetadata is = installed_once is
           judged_so (rule.MetadataInvalid trigger) is = not_taken_back trigger is
           judged_so rule.NoHost is = has_host is
@@ -248,40 +248,40 @@ module _ (made : Made) (h : History) (asked : Asked) (place : Place) (moment : �
           said_so (rule.Protocol number) is = of_objects (rule.Protocol number) is
           said_so rule.NoSource is = of_objects rule.NoSource is
 
-          by_rule : (found : Option Rule) → first_rule (effective arrays) asked.protocol place moment ≡ found → Told found
-          by_rule None none = λ r is. none_judged (effective arrays) asked place moment none r (judged_so r is)
+          by_rule : (found : Option Rule) → first_rule (effective arrays) request.asked.protocol request.place moment ≡ found → Told found
+          by_rule None none = λ r is. none_judged (effective arrays) request.asked request.place moment none r (judged_so r is)
           by_rule (Some r) some =
-              let first = (denied_by_first (effective arrays) asked.protocol place moment r).0 (ap (λ found. option_map_or Deny found Allow) some) in
+              let first = (denied_by_first (effective arrays) request.asked.protocol request.place moment r).0 (ap (λ found. option_map_or Deny found Allow) some) in
               record { forbids = said_so r first.0; first = λ other less is. first.1 other less (judged_so other is) }
 
-        by_chain : (found : Option (List (List Generic))) → chain i.tree.index asked.target ≡ found → Told (rule_by (option_map effective found) asked place moment)
+        by_chain : (found : Option (List (List Generic))) → chain i.tree.index request.asked.target ≡ found → Told (rule_by (option_map effective found) request.asked request.place moment)
         by_chain None none = record {
-          forbids = (i, in_force, (none_same i.tree.index asked.target).0 none);
-          first = free 4 (record { method = λ less. method_allows asked.method served; metadata = λ less. installed_once; invalid = λ less. not_taken_back; last = omega arith });
+          forbids = (i, in_force, (none_same i.tree.index request.asked.target).0 none);
+          first = free 4 (record { method = λ less. method_allows request.asked.method served; metadata = λ less. installed_once; invalid = λ less. not_taken_back; last = omega arith });
         }
-        by_chain (Some arrays) some = by_rule arrays some (first_rule (effective arrays) asked.protocol place moment) refl
+        by_chain (Some arrays) some = by_rule arrays some (first_rule (effective arrays) request.asked.protocol request.place moment) refl
 
-      by_hit : (found : Option ℕ) → first_hit d.starts i.at i.tree.resources ≡ found → Told (rule_in i.tree.index found asked place moment)
-      by_hit None none = by_chain none (chain i.tree.index asked.target) refl
+      by_hit : (found : Option ℕ) → first_hit d.starts i.at i.tree.resources ≡ found → Told (rule_in i.tree.index found request.asked request.place moment)
+      by_hit None none = by_chain none (chain i.tree.index request.asked.target) refl
       by_hit (Some trigger) some = record {
         forbids = (i, in_force, first_to_hit made h i.at i.tree.resources trigger some);
-        first = free 3 (record { method = λ less. method_allows asked.method served; metadata = λ less. installed_once; invalid = λ less. absurd (omega (arith, less)); last = omega arith });
+        first = free 3 (record { method = λ less. method_allows request.asked.method served; metadata = λ less. installed_once; invalid = λ less. absurd (omega (arith, less)); last = omega arith });
       }
 
     by_tree : (tree : Option Installed) → d.tree ≡ tree
-        → Told (rule_at (option_map (λ (x : Installed). x.tree.index) tree) (option_and_then (λ (x : Installed). first_hit d.starts x.at x.tree.resources) tree) asked place moment)
+        → Told (rule_at (option_map (λ (x : Installed). x.tree.index) tree) (option_and_then (λ (x : Installed). first_hit d.starts x.at x.tree.resources) tree) request.asked request.place moment)
     by_tree None is = record {
       forbids = (metadata_law made h).none is;
-      first = free 2 (record { method = λ less. method_allows asked.method served; metadata = λ less. absurd (omega (arith, less)); invalid = λ less. absurd (omega (arith, less)); last = omega arith });
+      first = free 2 (record { method = λ less. method_allows request.asked.method served; metadata = λ less. absurd (omega (arith, less)); invalid = λ less. absurd (omega (arith, less)); last = omega arith });
     }
     by_tree (Some i) is = by_hit i is (first_hit d.starts i.at i.tree.resources) refl
 
   told : Told the_rule
   unfolding forbidden
-  told = elim (cases_Bool (is_served asked.method)) [
-    | inl served ↦ subst Told (sym (cond-true (is_served asked.method) (rule_at (index_of d) (invalid_of d) asked place moment) (Some rule.Method) served)) (by_tree served d.tree refl)
-    | inr other ↦ subst Told (sym (cond-false (is_served asked.method) (rule_at (index_of d) (invalid_of d) asked place moment) (Some rule.Method) other)) (record {
-      forbids = method_forbids asked.method other;
+  told = elim (cases_Bool (is_served request.asked.method)) [
+    | inl served ↦ subst Told (sym (cond-true (is_served request.asked.method) (rule_at (index_of d) (invalid_of d) request.asked request.place moment) (Some rule.Method) served)) (by_tree served d.tree refl)
+    | inr other ↦ subst Told (sym (cond-false (is_served request.asked.method) (rule_at (index_of d) (invalid_of d) request.asked request.place moment) (Some rule.Method) other)) (record {
+      forbids = method_forbids request.asked.method other;
       first = free 1 (record { method = λ less. absurd (omega (arith, less)); metadata = λ less. absurd (omega (arith, less)); invalid = λ less. absurd (omega (arith, less)); last = omega arith });
     })
   ]
@@ -298,15 +298,15 @@ module _ (made : Made) (h : History) (asked : Asked) (place : Place) (moment : �
   abbrev w : World
   w = world_of made h
 
-  allowed_agrees : (kept : Option Kept) → the_rule ≡ None → Agrees (allowed_reply w asked kept)
+  allowed_agrees : (kept : Option Kept) → the_rule ≡ None → Agrees (allowed_reply w request.asked kept)
   allowed_agrees None none = none
   allowed_agrees (Some kept) none = none
 
-  judged_agrees : (found : Option Rule) → the_rule ≡ found → Agrees (judged_reply w asked found)
-  judged_agrees None none = allowed_agrees (kept_of (key_at (index_of d) asked.target) d.kept) none
+  judged_agrees : (found : Option Rule) → the_rule ≡ found → Agrees (judged_reply w request.asked found)
+  judged_agrees None none = allowed_agrees (kept_of (key_at (index_of d) request.asked.target) d.kept) none
   judged_agrees (Some r) some = some
 
-  agrees : (pass : ℕ) → Agrees (reply_in w (pass, Admit asked place moment))
+  agrees : (pass : ℕ) → Agrees (reply_in w (pass, Admit request moment))
   unfolding reply_in
   agrees pass = either Agrees (pending d == w.made.limits.rows) _ _ tt (opening_cases w Agrees _ (λ n. tt) (judged_agrees the_rule refl))
 
@@ -315,8 +315,8 @@ module _ (made : Made) (h : History) (asked : Asked) (place : Place) (moment : �
   no_rule (reply.Miss delivery fetch plan) none is = none
   no_rule answer none is = absurd (both_ways false refl is)
 
-  pub denied_first : (pass delivery : ℕ) (r : Rule) → reply_to made h (pass, Admit asked place moment) ≡ reply.Denied delivery r → IsFirstToForbid made h asked place moment r
+  pub denied_first : (pass delivery : ℕ) (r : Rule) → reply_to made h (pass, Admit request moment) ≡ reply.Denied delivery r → IsFirstToForbid made h request moment r
   denied_first pass delivery r is = subst Told (subst Agrees is (agrees pass)) told
 
-  pub admitted_free : (pass : ℕ) → IsTrue (is_admitted (reply_to made h (pass, Admit asked place moment))) → (r : Rule) → Forbids made h asked place moment r → ⊥
-  admitted_free pass is = subst Told (no_rule (reply_to made h (pass, Admit asked place moment)) (agrees pass) is) told
+  pub admitted_free : (pass : ℕ) → IsTrue (is_admitted (reply_to made h (pass, Admit request moment))) → (r : Rule) → Forbids made h request moment r → ⊥
+  admitted_free pass is = subst Told (no_rule (reply_to made h (pass, Admit request moment)) (agrees pass) is) told

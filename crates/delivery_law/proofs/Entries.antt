@@ -38,9 +38,9 @@ module _ (w : World) (P : Begun Fetching → Type 0) (old : All P w.delivering.f
   Passes e r = ((fetch : ℕ) (target : Target) → begun_fetch r ≡ Some fetch → fetched_target e.1 r ≡ Some target → P (begun_by w e fetch target)) → All P (fetches_after w e r)
 
   fetches_pass : (e : Entry) → Passes e (reply_in w e)
-  fetches_pass (pass, Admit asked place moment) = admit_cases w pass asked place moment (Passes (pass, Admit asked place moment))
+  fetches_pass (pass, Admit request moment) = admit_cases w pass request moment (Passes (pass, Admit request moment))
       (λ n new. old) (λ rule new. old) (λ kept is new. old)
-      (λ is new. All-push P w.delivering.fetches _ old (new (w.counts.fetched + 1) asked.target refl refl))
+      (λ is new. All-push P w.delivering.fetches _ old (new (w.counts.fetched + 1) request.asked.target refl refl))
   fetches_pass (pass, FetchEnd fetch outcome moment) = λ new. All-filter _ P w.delivering.fetches old
   fetches_pass (pass, Advance id moment) = advance_cases w pass (Passes (pass, Advance id moment))
       (λ n new. old) (λ status new. old) (λ by new. old) (λ n new. old) (λ new. old) (λ new. old) (λ n new. old)
@@ -82,7 +82,7 @@ starts_more : (w : World) (e : Entry) → Starts w e (reply_in w e)
 starts_more w (pass, Advance id moment) = advance_cases w pass (Starts w (pass, Advance id moment))
     (λ n. same_starts w) (λ status. same_starts w) (λ by. same_starts w) (λ n. same_starts w) refl (same_starts w) (λ n. same_starts w)
     (λ target. same_starts w) id moment (same_starts w)
-starts_more w (pass, Admit asked place moment) = same_starts w
+starts_more w (pass, Admit request moment) = same_starts w
 starts_more w (pass, FetchEnd fetch outcome moment) = same_starts w
 starts_more w (pass, Finish delivery status total entity moment) = same_starts w
 starts_more w (pass, RefreshBegin moment) = same_starts w
@@ -211,7 +211,7 @@ module _ (w : World) (P Q : Kept → Type 0) (old : All P w.delivering.kept) whe
       all_with Q w.made.limits.cache w.delivering.kept _ (same stays) (ended_by pass fetch ends moment (find (is_open fetch pass) w.delivering.fetches) refl new)
 
   keeps : (e : Entry) → Keeps e (reply_in w e)
-  keeps (pass, Admit asked place moment) = admit_cases w pass asked place moment (Keeps (pass, Admit asked place moment))
+  keeps (pass, Admit request moment) = admit_cases w pass request moment (Keeps (pass, Admit request moment))
       (λ n stays new. same stays) (λ rule stays new. same stays)
       (λ kept is stays new. moved_ones (is_of _) w.delivering.kept (same stays)) (λ is stays new. same stays)
   keeps (pass, FetchEnd fetch ends moment) = keeps_ended pass fetch ends moment

@@ -6,8 +6,6 @@ use Rattle.std.proofs.lemmas.List.Elements.{All-append, All-nil, All-same, All-w
 use Rattle.std.proofs.lemmas.Option.{none-some, same_Some}
 use Rattle.cdni_base.specs.KeyEqualityLemmas.{key_decides}
 use Rattle.cdni_base.specs.Key.{KeyParts}
-use Rattle.cdni_base.specs.declared.asked.Asked.{Asked}
-use Rattle.location_acl.specs.declared.footprint.Place.{Place}
 use Rattle.targets.specs.declared.endpoint.Endpoint.{Endpoint}
 use Rattle.targets.specs.declared.target.Target.{Target}
 use Rattle.trigger_command.specs.Selection.{Hits, hits}
@@ -18,7 +16,7 @@ use Rattle.history.proofs.Cases.{admit_cases}
 use Rattle.history.proofs.Numbers.{entries_are}
 use Rattle.history.proofs.Words.{world_none, world_push}
 use Rattle.history.specs.After.{begun_fetch, fetches_after, fetching}
-use Rattle.history.specs.Event.{Entry, Event, History, Admit, FetchEnd}
+use Rattle.history.specs.Event.{Entry, Event, History, Admit, FetchEnd, Request}
 use Rattle.history.specs.History.{reply_to, world_of}
 use Rattle.history.specs.Kept.{is_hit_since, is_of, kept_of}
 use Rattle.history.specs.Metadata.{key_at, plan_at}
@@ -178,16 +176,16 @@ hit_of made h target kept is =
       untaken = untaken made h found.0.began (λ selection. Hits selection kept.key kept.ccid) found.0.unhit;
     }
 
-pub hit_law : (made : Made) (h : History) (pass : ℕ) (asked : Asked) (place : Place) (moment delivery fetch : ℕ) (kind body : List ℕ)
-    → reply_to made h (pass, Admit asked place moment) ≡ reply.Hit delivery fetch kind body → IsOfOneFetch made h asked.target fetch kind body
-hit_law made h pass asked place moment delivery fetch kind body = admit_cases (world_of made h) pass asked place moment
-    (λ r. r ≡ reply.Hit delivery fetch kind body → IsOfOneFetch made h asked.target fetch kind body)
+pub hit_law : (made : Made) (h : History) (pass : ℕ) (request : Request) (moment delivery fetch : ℕ) (kind body : List ℕ)
+    → reply_to made h (pass, Admit request moment) ≡ reply.Hit delivery fetch kind body → IsOfOneFetch made h request.asked.target fetch kind body
+hit_law made h pass request moment delivery fetch kind body = admit_cases (world_of made h) pass request moment
+    (λ r. r ≡ reply.Hit delivery fetch kind body → IsOfOneFetch made h request.asked.target fetch kind body)
     (λ n is. absurd (none-some fetch (ap hit_fetch is)))
     (λ rule is. absurd (none-some fetch (ap hit_fetch is)))
     (λ kept found is.
-    subst (λ f. IsOfOneFetch made h asked.target f kind body) (same_Some kept.fetch fetch (ap hit_fetch is))
-    (subst (λ k. IsOfOneFetch made h asked.target kept.fetch k body) (ap hit_kind is)
-    (subst (λ b. IsOfOneFetch made h asked.target kept.fetch kept.kind b) (ap hit_body is) (hit_of made h asked.target kept found))))
+    subst (λ f. IsOfOneFetch made h request.asked.target f kind body) (same_Some kept.fetch fetch (ap hit_fetch is))
+    (subst (λ k. IsOfOneFetch made h request.asked.target kept.fetch k body) (ap hit_kind is)
+    (subst (λ b. IsOfOneFetch made h request.asked.target kept.fetch kept.kind b) (ap hit_body is) (hit_of made h request.asked.target kept found))))
     (λ none is. absurd (none-some fetch (ap hit_fetch is)))
 
 -- ---- misses
@@ -200,39 +198,39 @@ abbrev miss_plan : Reply → List Endpoint
 miss_plan (reply.Miss delivery fetch plan) = plan
 miss_plan r = []
 
-miss_parts : (w : World) (pass : ℕ) (asked : Asked) (place : Place) (moment delivery fetch : ℕ) (plan : List Endpoint)
-    → reply_in w (pass, Admit asked place moment) ≡ reply.Miss delivery fetch plan
-    → (plan ≡ plan_at (index_of w.delivering) asked.target) × (kept_of (key_at (index_of w.delivering) asked.target) w.delivering.kept ≡ None)
-miss_parts w pass asked place moment delivery fetch plan = admit_cases w pass asked place moment
-    (λ r. r ≡ reply.Miss delivery fetch plan → (plan ≡ plan_at (index_of w.delivering) asked.target) × (kept_of (key_at (index_of w.delivering) asked.target) w.delivering.kept ≡ None))
+miss_parts : (w : World) (pass : ℕ) (request : Request) (moment delivery fetch : ℕ) (plan : List Endpoint)
+    → reply_in w (pass, Admit request moment) ≡ reply.Miss delivery fetch plan
+    → (plan ≡ plan_at (index_of w.delivering) request.asked.target) × (kept_of (key_at (index_of w.delivering) request.asked.target) w.delivering.kept ≡ None)
+miss_parts w pass request moment delivery fetch plan = admit_cases w pass request moment
+    (λ r. r ≡ reply.Miss delivery fetch plan → (plan ≡ plan_at (index_of w.delivering) request.asked.target) × (kept_of (key_at (index_of w.delivering) request.asked.target) w.delivering.kept ≡ None))
     (λ n is. absurd (none-some fetch (ap miss_fetch is)))
     (λ rule is. absurd (none-some fetch (ap miss_fetch is)))
     (λ kept found is. absurd (none-some fetch (ap miss_fetch is)))
     (λ none is. (sym (ap miss_plan is), none))
 
-pub miss_law : (made : Made) (h : History) (pass : ℕ) (asked : Asked) (place : Place) (moment delivery fetch : ℕ) (plan : List Endpoint)
-    → reply_to made h (pass, Admit asked place moment) ≡ reply.Miss delivery fetch plan → BeginsItsFetch made h (pass, Admit asked place moment) asked.target fetch plan
-miss_law made h pass asked place moment delivery fetch plan is =
-    let e : Entry = (pass, Admit asked place moment) in
+pub miss_law : (made : Made) (h : History) (pass : ℕ) (request : Request) (moment delivery fetch : ℕ) (plan : List Endpoint)
+    → reply_to made h (pass, Admit request moment) ≡ reply.Miss delivery fetch plan → BeginsItsFetch made h (pass, Admit request moment) request.asked.target fetch plan
+miss_law made h pass request moment delivery fetch plan is =
+    let e : Entry = (pass, Admit request moment) in
     let v : World = world_of made h in
-    let key : KeyParts = key_at (index_of v.delivering) asked.target in
-    let parts = miss_parts v pass asked place moment delivery fetch plan is in
+    let key : KeyParts = key_at (index_of v.delivering) request.asked.target in
+    let parts = miss_parts v pass request moment delivery fetch plan is in
     record {
-      what = fetching v asked.target;
+      what = fetching v request.asked.target;
       key = refl;
       ccid = refl;
       begun = record {
-        event = Admit asked place moment;
+        event = Admit request moment;
         answer = reply.Miss delivery fetch plan;
         answered = record { before = h; since = []; whole = refl; place = refl; answered = is };
         number = refl;
-        target = asked.target;
+        target = request.asked.target;
         targeted = refl;
         key = refl;
         ccid = refl;
       };
       opened = ap (λ (x : World). x.delivering.fetches) (world_push made h e) ∙ fetches_are v e ∙ ap (fetches_after v e) is
-          ∙ ap (λ (n : ℕ). v.delivering.fetches ++ record { number = fetch; pass = pass; at = n + 1; what = fetching v asked.target } ∷ []) (fetch_law made h).entries;
+          ∙ ap (λ (n : ℕ). v.delivering.fetches ++ record { number = fetch; pass = pass; at = n + 1; what = fetching v request.asked.target } ∷ []) (fetch_law made h).entries;
       sources = parts.0;
       none_kept = All-weaker (λ (k : Kept). is_of key k ≡ false) (λ (k : Kept). k.key ≡ key → ⊥) (λ k other same. both_ways _ other ((key_decides key k.key).1 (sym same))) v.delivering.kept (none_found (is_of key) v.delivering.kept parts.1);
     }

@@ -7,12 +7,10 @@ use Rattle.std.proofs.lemmas.List.Elements.{All-cons, All-filter, All-nil, All-p
 use Rattle.std.proofs.lemmas.List.Kept.{AllPairs-filter}
 use Rattle.std.proofs.lemmas.List.Quantifiers.{all_pairs_push}
 use Rattle.std.proofs.lemmas.Option.{none-some, same_Some}
-use Rattle.cdni_base.specs.declared.asked.Asked.{Asked}
-use Rattle.location_acl.specs.declared.footprint.Place.{Place}
 use Rattle.history.proofs.Numbers.{entries_are}
 use Rattle.history.proofs.Words.{world_none, world_push}
 use Rattle.history.specs.After.{admission, begun_delivery, closed, logged_row, position, recorded}
-use Rattle.history.specs.Event.{Entry, Event, History, Admit, Finish}
+use Rattle.history.specs.Event.{Entry, Event, History, Admit, Finish, Request}
 use Rattle.history.specs.History.{AnsweredAt, reply_to, world_of}
 use Rattle.history.specs.World.{Begun, Made, Recorded, World, is_open}
 use Rattle.history.specs.declared.begun.Admission.{Admission}
@@ -131,13 +129,12 @@ got_longer (z ∷ zs) y (suc k) x is = got_longer zs y k x is
 
 -- an open delivery was admitted
 record WasAdmitted (made : Made) (h : History) (f : Begun Admission) : Type 0 where
-  asked : Asked
-  place : Place
+  request : Request
   moment : ℕ
   answer : Reply
-  admitted : AnsweredAt made h f.at (f.pass, Admit asked place moment) answer
+  admitted : AnsweredAt made h f.at (f.pass, Admit request moment) answer
   delivery : begun_delivery answer ≡ Some f.number
-  what : f.what ≡ admission asked place moment (named_ccid (index_after made admitted.before) asked.target answer) (was_kept answer)
+  what : f.what ≡ admission request moment (named_ccid (index_after made admitted.before) request.asked.target answer) (was_kept answer)
 
 -- what is said of the rows, and of what is open
 record Rows (made : Made) (h : History) (b : Books) : Type 0 where
@@ -191,14 +188,13 @@ module _ (made : Made) (h : History) (e : Entry) (entries : (world_of made h).en
   r = reply_to made h e
 
   admitted_longer : (f : Begun Admission) → WasAdmitted made h f → WasAdmitted made h' f
-  admitted_longer f was = record { asked = was.asked; place = was.place; moment = was.moment; answer = was.answer; admitted = longer e was.admitted; delivery = was.delivery; what = was.what }
+  admitted_longer f was = record { request = was.request; moment = was.moment; answer = was.answer; admitted = longer e was.admitted; delivery = was.delivery; what = was.what }
 
   one_longer : (number : ℕ) (row : Recorded) → IsOfOneDelivery made h number row → IsOfOneDelivery made h' number row
   one_longer number row one = record {
     pass = one.pass;
     in_order = one.in_order;
-    asked = one.asked;
-    place = one.place;
+    request = one.request;
     moment = one.moment;
     answer = one.answer;
     admitted = longer e one.admitted;
@@ -231,8 +227,7 @@ module _ (made : Made) (h : History) (e : Entry) (entries : (world_of made h).en
   begins : (new : Books) → Begins w e r new → Rows made h' new
   begins new b = subst (Rows made h') (sym b.more) (record {
     opened = All-push (WasAdmitted made h') w.delivering.deliveries _ (All-weaker (WasAdmitted made h) (WasAdmitted made h') admitted_longer w.delivering.deliveries law.opened) (record {
-      asked = b.asked;
-      place = b.place;
+      request = b.request;
       moment = b.moment;
       answer = r;
       admitted = record {
@@ -271,8 +266,7 @@ module _ (made : Made) (h : History) (e : Entry) (entries : (world_of made h).en
         record {
           pass = f.one.pass;
           in_order = omega (arith, within was.admitted, entries);
-          asked = was.asked;
-          place = was.place;
+          request = was.request;
           moment = was.moment;
           answer = was.answer;
           admitted = longer e was.admitted;

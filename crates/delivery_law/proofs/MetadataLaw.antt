@@ -19,7 +19,7 @@ use Rattle.history.proofs.Cases.{admit_cases, advance_cases, begin_cases, cancel
 use Rattle.history.proofs.Numbers.{entries_are, tree_is}
 use Rattle.history.proofs.Words.{world_none, world_push}
 use Rattle.history.specs.After.{after, after_reply, begun_refresh, installation, installed_by, position, refreshes_after, tree_after}
-use Rattle.history.specs.Event.{Entry, Event, History, Admit, FetchEnd, Finish, RefreshBegin, RefreshEnd, Command, Advance, Cancel, Delete, ReadStatus, Lists, Cut, LogFile, ListLogs, DropLog}
+use Rattle.history.specs.Event.{Entry, Event, History, Admit, FetchEnd, Finish, RefreshBegin, RefreshEnd, Command, Advance, Cancel, Delete, ReadStatus, Lists, Cut, LogFile, ListLogs, DropLog, Request}
 use Rattle.history.specs.History.{reply_to, world_of}
 use Rattle.history.specs.Metadata.{forbidden, is_served, rule_at, rule_in}
 use Rattle.history.specs.Reply.{fresh_reply, install_reply, judged_reply, newer_than, pending, refresh_end_reply, reply_in}
@@ -50,7 +50,7 @@ module _ (w : World) (P : Begun ℕ → Type 0) (old : All P w.delivering.refres
   refreshes_pass (pass, Advance id moment) = advance_cases w pass (Passes (pass, Advance id moment))
       (λ n new. old) (λ status new. old) (λ by new. old) (λ n new. old) (λ new. old)
       (λ new. All-push P w.delivering.refreshes _ old (new (w.counts.refreshed + 1) moment refl refl)) (λ n new. old) (λ target new. old) id moment (λ new. old)
-  refreshes_pass (pass, Admit asked place moment) = λ new. old
+  refreshes_pass (pass, Admit request moment) = λ new. old
   refreshes_pass (pass, FetchEnd fetch outcome moment) = λ new. old
   refreshes_pass (pass, Finish delivery status total entity moment) = λ new. old
   refreshes_pass (pass, Command spec moment) = λ new. old
@@ -78,7 +78,7 @@ InstallsNothing r = installation r ≡ None
 
 installs_nothing : (w : World) (e : Entry) → is_refresh_end e.1 ≡ false → InstallsNothing (reply_in w e)
 installs_nothing w (pass, RefreshEnd refresh tree moment) is = absurd (both_ways true is refl)
-installs_nothing w (pass, Admit asked place moment) is = admit_cases w pass asked place moment InstallsNothing (λ n. refl) (λ rule. refl) (λ kept is. refl) (λ is. refl)
+installs_nothing w (pass, Admit request moment) is = admit_cases w pass request moment InstallsNothing (λ n. refl) (λ rule. refl) (λ kept is. refl) (λ is. refl)
 installs_nothing w (pass, FetchEnd fetch outcome moment) is = fetch_end_cases w pass InstallsNothing fetch outcome moment refl (λ a b. refl)
 installs_nothing w (pass, Finish delivery status total entity moment) is = finish_cases w pass InstallsNothing delivery status total entity moment refl refl
 installs_nothing w (pass, RefreshBegin moment) is = begin_cases w pass InstallsNothing moment (λ n. refl) (λ n. refl) refl
@@ -142,7 +142,7 @@ module _ (w : World) (Q : Installed → Type 0) where
 
   trees : (e : Entry) → Trees e (reply_in w e)
   trees (pass, RefreshEnd refresh tree moment) = tree_ended pass refresh moment tree
-  trees (pass, Admit asked place moment) = λ old new i now. old i now (installs_nothing w (pass, Admit asked place moment) refl)
+  trees (pass, Admit request moment) = λ old new i now. old i now (installs_nothing w (pass, Admit request moment) refl)
   trees (pass, FetchEnd fetch outcome moment) = λ old new i now. old i now (installs_nothing w (pass, FetchEnd fetch outcome moment) refl)
   trees (pass, Finish delivery status total entity moment) = λ old new i now. old i now (installs_nothing w (pass, Finish delivery status total entity moment) refl)
   trees (pass, RefreshBegin moment) = λ old new i now. old i now (installs_nothing w (pass, RefreshBegin moment) refl)
@@ -187,7 +187,7 @@ module _ (w : World) where
 
   leaves_none : (e : Entry) → LeavesNone e (reply_in w e)
   leaves_none (pass, RefreshEnd refresh tree moment) = none_ended pass refresh moment tree
-  leaves_none (pass, Admit asked place moment) = λ now. (now, installs_nothing w (pass, Admit asked place moment) refl)
+  leaves_none (pass, Admit request moment) = λ now. (now, installs_nothing w (pass, Admit request moment) refl)
   leaves_none (pass, FetchEnd fetch outcome moment) = λ now. (now, installs_nothing w (pass, FetchEnd fetch outcome moment) refl)
   leaves_none (pass, Finish delivery status total entity moment) = λ now. (now, installs_nothing w (pass, Finish delivery status total entity moment) refl)
   leaves_none (pass, RefreshBegin moment) = λ now. (now, installs_nothing w (pass, RefreshBegin moment) refl)
@@ -321,18 +321,18 @@ reads index invalid asked place moment is = elim (cases_Bool (is_served asked.me
   | inr other ↦ absurd (both_ways false refl (ap is_read (sym (cond-false (is_served asked.method) (rule_at index invalid asked place moment) (Some rule.Method) other)) ∙ is))
 ]
 
-module _ (w : World) (asked : Asked) (place : Place) (moment : ℕ) where
+module _ (w : World) (request : Request) (moment : ℕ) where
   abbrev the_rule : Option Rule
-  the_rule = forbidden (index_of w.delivering) (invalid_of w.delivering) asked place moment
+  the_rule = forbidden (index_of w.delivering) (invalid_of w.delivering) request.asked request.place moment
 
   abbrev Reads : Reply → Type 0
   Reads r = uses_metadata r ≡ true → is_read the_rule ≡ true
 
-  judged_reads : (found : Option Rule) → found ≡ the_rule → Reads (judged_reply w asked found)
+  judged_reads : (found : Option Rule) → found ≡ the_rule → Reads (judged_reply w request.asked found)
   judged_reads None is uses = ap is_read (sym is)
   judged_reads (Some rule) is uses = ap is_read (sym is) ∙ uses
 
-  admit_reads : (pass : ℕ) → Reads (reply_in w (pass, Admit asked place moment))
+  admit_reads : (pass : ℕ) → Reads (reply_in w (pass, Admit request moment))
   unfolding reply_in
   admit_reads pass = either Reads (pending w.delivering == w.made.limits.rows) _ _ (λ uses. absurd (both_ways false refl uses))
       (opening_cases w Reads _ (λ n uses. absurd (both_ways false refl uses)) (judged_reads the_rule refl))
@@ -377,11 +377,11 @@ pub unhit_any : (at : ℕ) (resources : List KeyParts) (starts : List Start) →
 unhit_any at resources starts all = All-weaker (λ (s : Start). at < s.at → Any (HitsMetadata s.selection) resources → ⊥) (Unhit at resources)
     (λ s unhit later. any_none (HitsMetadata s.selection) resources (unhit later)) starts all
 
-pub unhit_metadata : (made : Made) (h : History) (pass : ℕ) (asked : Asked) (place : Place) (moment : ℕ)
-    → IsTrue (uses_metadata (reply_to made h (pass, Admit asked place moment))) → HasUnhitMetadata made h
-unhit_metadata made h pass asked place moment uses =
+pub unhit_metadata : (made : Made) (h : History) (pass : ℕ) (request : Request) (moment : ℕ)
+    → IsTrue (uses_metadata (reply_to made h (pass, Admit request moment))) → HasUnhitMetadata made h
+unhit_metadata made h pass request moment uses =
     let d : Delivering = (world_of made h).delivering in
-    let free = reads (index_of d) (invalid_of d) asked place moment (admit_reads (world_of made h) asked place moment pass uses) in
+    let free = reads (index_of d) (invalid_of d) request.asked request.place moment (admit_reads (world_of made h) request moment pass uses) in
     let has = has_tree d.tree free.0 in
     let i : Installed = has.0 in
     let unhit = not_since i.at i.tree.resources d.starts (sym (ap (option_and_then (λ (x : Installed). first_hit d.starts x.at x.tree.resources)) has.1) ∙ free.1) in

@@ -2,18 +2,16 @@
 use Rattle.std.specs.Prelude.{◌≡◌, ◌≢◌, ℕ, ◌<◌, Bool, true, false, List, ◌∷◌, ◌++◌, All, Some, codes}
 use Rattle.std.specs.List.{Any}
 use Rattle.cdni_base.specs.Key.{KeyParts}
-use Rattle.cdni_base.specs.declared.asked.Asked.{Asked}
 use Rattle.cdni_base.specs.declared.rule.Rule.{Rule}
 use Rattle.cdni_base.specs.declared.rule.Rule.TheVariants as rule
 use Rattle.inheritance.specs.Chain.{IsChain, matches_target}
 use Rattle.inheritance.specs.Effective.{effective}
 use Rattle.listing.specs.FirstMatch.{NoneHolds}
-use Rattle.location_acl.specs.declared.footprint.Place.{Place}
 use Rattle.metadata_objects.specs.declared.generic.Generic.{Generic}
 use Rattle.trigger_command.specs.Selection.{HitsMetadata}
 use Rattle.verdict.specs.Verdict as judged
 use Rattle.verdict.specs.Verdict.{order_of}
-use Rattle.history.specs.Event.{Entry, History}
+use Rattle.history.specs.Event.{Entry, History, Request}
 use Rattle.history.specs.History.{AnsweredAt, world_of}
 use Rattle.history.specs.World.{Installed, Made, Start, Trigger}
 use Rattle.history.specs.declared.reply.Reply.{Reply}
@@ -57,19 +55,19 @@ pub record IsFirstToHit (made : Made) (h : History) (at : ℕ) (resources : List
 -- the rule forbids the request, whatever the others do: the method is neither GET nor HEAD (RFC 9110, section 9.3); no
 -- metadata was installed; a trigger took the installed metadata back; no HostMatch of it matches; or the objects that it
 -- makes effective for the target forbid it
-abbrev pub Forbids : Made → History → Asked → Place → ℕ → Rule → Type 0
-Forbids made h asked place moment rule.Method = (asked.method ≢ codes "GET") × (asked.method ≢ codes "HEAD")
-Forbids made h asked place moment rule.NoMetadata = NoneWasInstalled made h
-Forbids made h asked place moment (rule.MetadataInvalid trigger) = (installed : Installed)
+abbrev pub Forbids : Made → History → Request → ℕ → Rule → Type 0
+Forbids made h request moment rule.Method = (request.asked.method ≢ codes "GET") × (request.asked.method ≢ codes "HEAD")
+Forbids made h request moment rule.NoMetadata = NoneWasInstalled made h
+Forbids made h request moment (rule.MetadataInvalid trigger) = (installed : Installed)
     × IsInForce made h installed × IsFirstToHit made h installed.at installed.tree.resources trigger
-Forbids made h asked place moment rule.NoHost = (installed : Installed)
-    × IsInForce made h installed × NoneHolds (matches_target asked.target) installed.tree.index
-Forbids made h asked place moment rule = (installed : Installed) × IsInForce made h installed
-    × (arrays : List (List Generic)) × IsChain installed.tree.index asked.target arrays
-    × judged.Forbids (effective arrays) asked.protocol place moment rule
+Forbids made h request moment rule.NoHost = (installed : Installed)
+    × IsInForce made h installed × NoneHolds (matches_target request.asked.target) installed.tree.index
+Forbids made h request moment rule = (installed : Installed) × IsInForce made h installed
+    × (arrays : List (List Generic)) × IsChain installed.tree.index request.asked.target arrays
+    × judged.Forbids (effective arrays) request.asked.protocol request.place moment rule
 
 -- the rule forbids the request, and none before it does: method, no metadata, metadata invalid, no host, unenforceable,
 -- location, time, protocol, no source
-pub record IsFirstToForbid (made : Made) (h : History) (asked : Asked) (place : Place) (moment : ℕ) (rule : Rule) : Type 0 where
-  pub forbids : Forbids made h asked place moment rule
-  pub first : (other : Rule) → order_of other < order_of rule → Forbids made h asked place moment other → ⊥
+pub record IsFirstToForbid (made : Made) (h : History) (request : Request) (moment : ℕ) (rule : Rule) : Type 0 where
+  pub forbids : Forbids made h request moment rule
+  pub first : (other : Rule) → order_of other < order_of rule → Forbids made h request moment other → ⊥

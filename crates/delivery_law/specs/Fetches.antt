@@ -25,7 +25,7 @@ index_after made h = index_of (world_of made h).delivering
 
 -- what the fetch that begins here fetches: the target of the request, or that of the trigger's URL
 abbrev pub fetched_target : Event → Reply → Option Target
-fetched_target (Admit asked place moment) (reply.Miss delivery fetch plan) = Some asked.target
+fetched_target (Admit request moment) (reply.Miss delivery fetch plan) = Some request.asked.target
 fetched_target (Advance id moment) (reply.Fetch fetch plan target) = Some target
 fetched_target event answer = None
 

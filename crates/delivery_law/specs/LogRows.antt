@@ -2,13 +2,11 @@
 use Rattle.std.specs.Prelude.{◌≡◌, ℕ, ◌-◌, ◌<◌, Bool, true, false, List, None, Some}
 use Rattle.std.specs.List.{slice_get}
 use Rattle.std.specs.declared.option.Option.{Option}
-use Rattle.cdni_base.specs.declared.asked.Asked.{Asked}
-use Rattle.location_acl.specs.declared.footprint.Place.{Place}
 use Rattle.metadata_objects.specs.LevelData.{Index}
 use Rattle.targets.specs.Target.{url_text}
 use Rattle.targets.specs.declared.target.Target.{Target}
 use Rattle.history.specs.After.{begun_delivery, is_secure}
-use Rattle.history.specs.Event.{History, Admit, Finish}
+use Rattle.history.specs.Event.{History, Admit, Finish, Request}
 use Rattle.history.specs.History.{AnsweredAt}
 use Rattle.history.specs.Metadata.{ccid_at}
 use Rattle.history.specs.World.{Made, Recorded}
@@ -31,11 +29,10 @@ was_kept _ = false
 pub record IsOfOneDelivery (made : Made) (h : History) (number : ℕ) (one : Recorded) : Type 0 where
   pub pass : ℕ
   pub in_order : one.admitted < one.at
-  pub asked : Asked
-  pub place : Place
+  pub request : Request
   pub moment : ℕ
   pub answer : Reply
-  pub admitted : AnsweredAt made h one.admitted (pass, Admit asked place moment) answer
+  pub admitted : AnsweredAt made h one.admitted (pass, Admit request moment) answer
   pub delivery : begun_delivery answer ≡ Some one.delivery
   pub status : ℕ
   pub total : ℕ
@@ -45,14 +42,15 @@ pub record IsOfOneDelivery (made : Made) (h : History) (number : ℕ) (one : Rec
   pub row : one.row ≡ record {
     admitted = moment;
     finished = end;
-    asn = place.asn;
-    method = asked.method;
-    uri = url_text (is_secure asked.protocol) asked.target;
+    asn = request.place.asn;
+    method = request.asked.method;
+    uri = url_text (is_secure request.asked.protocol) request.asked.target;
     status = status;
     total = total;
     entity = entity;
-    ccid = named_ccid (index_after made admitted.before) asked.target answer;
+    ccid = named_ccid (index_after made admitted.before) request.asked.target answer;
     cached = was_kept answer;
+    extra = request.extra;
   }
 
 -- there is a row under this number, of this delivery, that was finished so at this position

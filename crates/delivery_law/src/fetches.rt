@@ -1,30 +1,28 @@
 //! What is delivered is what one fetch brought.
 
 ghost use Rattle.std.specs.Prelude.{◌≡◌, ℕ, List};
-ghost use Rattle.cdni_base.specs.declared.asked.Asked.{Asked};
 ghost use Rattle.delivery_law.specs.Fetches.{BeginsItsFetch, IsOfOneFetch};
-ghost use Rattle.history.specs.Event.{History, Admit};
+ghost use Rattle.history.specs.Event.{History, Admit, Request};
 ghost use Rattle.history.specs.History.{reply_to};
 ghost use Rattle.history.specs.World.{Made};
 ghost use Rattle.history.specs.declared.reply.Reply.TheVariants as reply;
-ghost use Rattle.location_acl.specs.declared.footprint.Place.{Place};
 ghost use Rattle.targets.specs.declared.endpoint.Endpoint.{Endpoint};
 
 /// A delivery that is answered with kept content has what one fetch brought: the fetch began and was ended before it,
 /// by the pass that began it, with status 200 and this type and body; its key is that of the request; and no invalidate
 /// or purge that started since the fetch began hits the fetch.
 pub fn a_hit_gives_what_one_fetch_brought()
-    ensures { (made : Made) (h : History) (pass : ℕ) (asked : Asked) (place : Place)
+    ensures { (made : Made) (h : History) (pass : ℕ) (request : Request)
         (moment delivery fetch : ℕ) (kind body : List ℕ)
-        → reply_to made h (pass, Admit asked place moment) ≡ reply.Hit delivery fetch kind body
-        → IsOfOneFetch made h asked.target fetch kind body }
+        → reply_to made h (pass, Admit request moment) ≡ reply.Hit delivery fetch kind body
+        → IsOfOneFetch made h request.asked.target fetch kind body }
 {}
 
 /// A delivery that waits for a fetch begins it at its own step, with the key and the collection of the request, from
 /// the endpoints of the effective sources, and nothing of its key is kept.
 pub fn a_miss_begins_its_own_fetch()
-    ensures { (made : Made) (h : History) (pass : ℕ) (asked : Asked) (place : Place)
+    ensures { (made : Made) (h : History) (pass : ℕ) (request : Request)
         (moment delivery fetch : ℕ) (plan : List Endpoint)
-        → reply_to made h (pass, Admit asked place moment) ≡ reply.Miss delivery fetch plan
-        → BeginsItsFetch made h (pass, Admit asked place moment) asked.target fetch plan }
+        → reply_to made h (pass, Admit request moment) ≡ reply.Miss delivery fetch plan
+        → BeginsItsFetch made h (pass, Admit request moment) request.asked.target fetch plan }
 {}

@@ -15,7 +15,7 @@ use Rattle.location_acl.specs.declared.ip.Ip.TheVariants.{V4}
 use Rattle.cdni_base.specs.Key.{key_of}
 use Rattle.cdni_base.specs.declared.key.Ignored.TheVariants as ignored
 use Rattle.metadata_objects.specs.Host.{host_index_of_text}
-use Rattle.history.specs.Event.{RefreshBegin, Admit, FetchEnd, Finish, Cut, DropLog, Advance, Delete}
+use Rattle.history.specs.Event.{request_of, RefreshBegin, Admit, FetchEnd, Finish, Cut, DropLog, Advance, Delete}
 use Rattle.upstream_gate.specs.declared.outcome.Outcome.TheVariants as outcome
 use Rattle.trigger_command.specs.Reading.{Judged, command_of}
 use Rattle.trigger_command.specs.declared.command.Command as trigger_command
@@ -187,8 +187,8 @@ line_of_call pass moment call small fits c = record {
 pub get_call : (moment path : ℕ) → path < 50 → IsCall moment (codes "get GET http/1.1 192.0.2.7 as64496 us http://v.example/o/" ++ decimal path)
 unfolding digits
 get_call moment path lt = record {
-  noted = plain (Admit (record { method = codes "GET"; protocol = Http; target = target_at (codes "v.example") (codes "/o/" ++ decimal path) })
-      (record { ip = V4 3221225991; asn = Some 64496; country = Some (117, 115) }) moment);
+  noted = plain (Admit (request_of (record { method = codes "GET"; protocol = Http; target = target_at (codes "v.example") (codes "/o/" ++ decimal path) })
+      (record { ip = V4 3221225991; asn = Some 64496; country = Some (117, 115) }) []) moment);
   says = inr (inl (record {
     method = codes "GET";
     protocol = codes "http/1.1";

@@ -2,9 +2,7 @@
 use Rattle.std.proofs.Common.{◌≡◌, ℕ, ◌+◌, ◌==◌, Bool, true, false, cond, List, [], ◌∷◌, length, refl, sym, ap, ◌∙◌, subst, None, Some, Option}
 use Rattle.std.specs.List.{find, list_any}
 use Rattle.std.specs.Option.{is_some, option_and_then}
-use Rattle.cdni_base.specs.declared.asked.Asked.{Asked}
 use Rattle.cdni_base.specs.declared.rule.Rule.{Rule}
-use Rattle.location_acl.specs.declared.footprint.Place.{Place}
 use Rattle.metadata_objects.specs.Tree.{TreeData}
 use Rattle.targets.specs.declared.target.Target.{Target}
 use Rattle.trigger_command.specs.Spec.{SpecParts}
@@ -13,7 +11,7 @@ use Rattle.trigger_status.specs.declared.job.Filter.{Filter}
 use Rattle.trigger_status.specs.declared.job.JobStatus.{JobStatus}
 use Rattle.targets.specs.declared.endpoint.Endpoint.{Endpoint}
 use Rattle.upstream_gate.specs.declared.outcome.Outcome.{Outcome}
-use Rattle.history.specs.Event.{Entry, Event, Admit, FetchEnd, Finish, RefreshBegin, RefreshEnd, Command, Advance, Cancel, Delete, ReadStatus, Lists, Cut, LogFile, ListLogs, DropLog}
+use Rattle.history.specs.Event.{Entry, Event, Admit, FetchEnd, Finish, RefreshBegin, RefreshEnd, Command, Advance, Cancel, Delete, ReadStatus, Lists, Cut, LogFile, ListLogs, DropLog, Request}
 use Rattle.history.specs.Kept.{kept_of}
 use Rattle.history.specs.Metadata.{forbidden, is_skipped, key_at, plan_at}
 use Rattle.history.specs.Reply.{admit_reply, advance_reply, allowed_reply, begin_reply, cancel_reply, command_reply, cut_reply, delete_reply, drop_reply, fetch_end_reply, file_of, finish_reply, fresh_reply, gained_of, install_reply, judged_reply, log_reply, newer_than, next_due, opening, pending, refresh_end_reply, reply_in, status_reply, step_reply, tree_reply, url_reply}
@@ -31,28 +29,28 @@ either P false x y one two = two
 pub opening_cases : (w : World) (P : Reply → Type 0) (r : Reply) → ((n : ℕ) → P (reply.Full n)) → P r → P (opening w r)
 opening_cases w P r full this = either P (w.counts.opened == w.made.limits.opened) (reply.Full w.counts.opened) r (full w.counts.opened) this
 
-module _ (w : World) (pass : ℕ) (asked : Asked) (place : Place) (moment : ℕ) (P : Reply → Type 0) where
+module _ (w : World) (pass : ℕ) (request : Request) (moment : ℕ) (P : Reply → Type 0) where
   abbrev the_rule : Option Rule
-  the_rule = forbidden (index_of w.delivering) (invalid_of w.delivering) asked place moment
+  the_rule = forbidden (index_of w.delivering) (invalid_of w.delivering) request.asked request.place moment
 
   abbrev the_kept : Option Kept
-  the_kept = kept_of (key_at (index_of w.delivering) asked.target) w.delivering.kept
+  the_kept = kept_of (key_at (index_of w.delivering) request.asked.target) w.delivering.kept
 
   allowed_cases : (found : Option Kept) → found ≡ the_kept → ((kept : Kept) → the_kept ≡ Some kept → P (reply.Hit (w.counts.delivered + 1) kept.fetch kept.kind kept.body))
-      → (the_kept ≡ None → P (reply.Miss (w.counts.delivered + 1) (w.counts.fetched + 1) (plan_at (index_of w.delivering) asked.target))) → P (allowed_reply w asked found)
+      → (the_kept ≡ None → P (reply.Miss (w.counts.delivered + 1) (w.counts.fetched + 1) (plan_at (index_of w.delivering) request.asked.target))) → P (allowed_reply w request.asked found)
   allowed_cases None is hit miss = miss (sym is)
   allowed_cases (Some kept) is hit miss = hit kept (sym is)
 
   judged_cases : (found : Option Rule) → found ≡ the_rule → ((rule : Rule) → P (reply.Denied (w.counts.delivered + 1) rule))
       → ((kept : Kept) → the_kept ≡ Some kept → P (reply.Hit (w.counts.delivered + 1) kept.fetch kept.kind kept.body))
-      → (the_kept ≡ None → P (reply.Miss (w.counts.delivered + 1) (w.counts.fetched + 1) (plan_at (index_of w.delivering) asked.target))) → P (judged_reply w asked found)
+      → (the_kept ≡ None → P (reply.Miss (w.counts.delivered + 1) (w.counts.fetched + 1) (plan_at (index_of w.delivering) request.asked.target))) → P (judged_reply w request.asked found)
   judged_cases None is denied hit miss = allowed_cases the_kept refl hit miss
   judged_cases (Some rule) is denied hit miss = denied rule
 
   pub admit_cases : ((n : ℕ) → P (reply.Full n)) → ((rule : Rule) → P (reply.Denied (w.counts.delivered + 1) rule))
       → ((kept : Kept) → the_kept ≡ Some kept → P (reply.Hit (w.counts.delivered + 1) kept.fetch kept.kind kept.body))
-      → (the_kept ≡ None → P (reply.Miss (w.counts.delivered + 1) (w.counts.fetched + 1) (plan_at (index_of w.delivering) asked.target)))
-      → P (reply_in w (pass, Admit asked place moment))
+      → (the_kept ≡ None → P (reply.Miss (w.counts.delivered + 1) (w.counts.fetched + 1) (plan_at (index_of w.delivering) request.asked.target)))
+      → P (reply_in w (pass, Admit request moment))
   unfolding reply_in
   admit_cases full denied hit miss = either P (pending w.delivering == w.made.limits.rows) _ _ (full (pending w.delivering)) (opening_cases w P _ full (judged_cases the_rule refl denied hit miss))
 
@@ -156,7 +154,7 @@ module _ (w : World) (pass : ℕ) (P : Reply → Type 0) where
   unfolding reply_in
   cut_cases moment none full file = cut_by w.delivering.unfiled none full file
 
-  log_by : (number : ℕ) (found : Option Filed) → P (reply.Unknown number) → ((text : List ℕ) → P (reply.LogText text)) → P (log_reply w.made.origin number found)
+  log_by : (number : ℕ) (found : Option Filed) → P (reply.Unknown number) → ((text : List ℕ) → P (reply.LogText text)) → P (log_reply w.made.heading number found)
   log_by number None none some = none
   log_by number (Some file) none some = some _
 

@@ -29,7 +29,7 @@ none : (counts : Counts) (r : Reply) → begun_delivery r ≡ None → begun_fet
 none counts r d f b = record { delivery = inl d; fetch = inl f; refresh = inl b }
 
 pub numbers_of : (w : World) (e : Entry) → Numbers w.counts (reply_in w e)
-numbers_of w (pass, Admit asked place moment) = admit_cases w pass asked place moment (Numbers w.counts)
+numbers_of w (pass, Admit request moment) = admit_cases w pass request moment (Numbers w.counts)
     (λ n. none w.counts (reply.Full n) refl refl refl)
     (λ rule. record { delivery = inr refl; fetch = inl refl; refresh = inl refl })
     (λ kept is. record { delivery = inr refl; fetch = inl refl; refresh = inl refl })
@@ -134,7 +134,7 @@ installs refresh brought before None low = omega arith
 installs refresh brought before (Some begun) low = low
 
 tree_rises : (w : World) (e : Entry) → number_in w.delivering.tree ≤ number_in (tree_after w e (reply_in w e))
-tree_rises w (pass, Admit asked place moment) = omega arith
+tree_rises w (pass, Admit request moment) = omega arith
 tree_rises w (pass, FetchEnd fetch outcome moment) = omega arith
 tree_rises w (pass, Finish delivery status total entity moment) = omega arith
 tree_rises w (pass, RefreshBegin moment) = omega arith

@@ -182,7 +182,7 @@ abbrev RefreshChange : World → Entry → Reply → Type 0
 RefreshChange w e r = Changes e (begun_refresh r) ends_refresh w.delivering.refreshes (refreshes_after w e r)
 
 refresh_change : (w : World) (e : Entry) → RefreshChange w e (reply_in w e)
-refresh_change w (pass, Admit asked place moment) = admit_cases w pass asked place moment (RefreshChange w (pass, Admit asked place moment))
+refresh_change w (pass, Admit request moment) = admit_cases w pass request moment (RefreshChange w (pass, Admit request moment))
     (λ n. inl (stays_as refl refl (λ n pass. refl))) (λ rule. inl (stays_as refl refl (λ n pass. refl)))
     (λ kept is. inl (stays_as refl refl (λ n pass. refl))) (λ is. inl (stays_as refl refl (λ n pass. refl)))
 refresh_change w (pass, FetchEnd fetch outcome moment) = fetch_end_cases w pass (RefreshChange w (pass, FetchEnd fetch outcome moment)) fetch outcome moment
@@ -219,7 +219,7 @@ pub refresh_changes : (w : World) (e : Entry) → Changes e (begun_refresh (repl
 refresh_changes w e = subst (Changes e (begun_refresh (reply_in w e)) ends_refresh w.delivering.refreshes) (sym (refreshes_are w e)) (refresh_change w e)
 
 pub other_refresh : (n by : ℕ) (e : Entry) → (e.0 ≡ by → ⊥) → ends_refresh n by e ≡ false
-other_refresh n by (pass, Admit asked place moment) other = refl
+other_refresh n by (pass, Admit request moment) other = refl
 other_refresh n by (pass, FetchEnd fetch outcome moment) other = refl
 other_refresh n by (pass, Finish delivery status total entity moment) other = refl
 other_refresh n by (pass, RefreshBegin moment) other = refl
@@ -246,10 +246,10 @@ abbrev FetchChange : World → Entry → Reply → Type 0
 FetchChange w e r = Changes e (begun_fetch r) ends_fetch w.delivering.fetches (fetches_after w e r)
 
 fetch_change : (w : World) (e : Entry) → FetchChange w e (reply_in w e)
-fetch_change w (pass, Admit asked place moment) = admit_cases w pass asked place moment (FetchChange w (pass, Admit asked place moment))
+fetch_change w (pass, Admit request moment) = admit_cases w pass request moment (FetchChange w (pass, Admit request moment))
     (λ n. inl (stays_as refl refl (λ n pass. refl))) (λ rule. inl (stays_as refl refl (λ n pass. refl)))
     (λ kept is. inl (stays_as refl refl (λ n pass. refl)))
-    (λ is. inr (inl (record { one = record { number = w.counts.fetched + 1; pass = pass; at = w.entries + 1; what = fetching w asked.target }; number = refl; by = refl; more = refl; others = λ n pass. refl })))
+    (λ is. inr (inl (record { one = record { number = w.counts.fetched + 1; pass = pass; at = w.entries + 1; what = fetching w request.asked.target }; number = refl; by = refl; more = refl; others = λ n pass. refl })))
 fetch_change w (pass, FetchEnd fetch outcome moment) = fetch_end_cases w pass (FetchChange w (pass, FetchEnd fetch outcome moment)) fetch outcome moment
     (inr (inr (closes_as fetch refl refl (λ n by. refl)))) (λ begun is. inr (inr (closes_as fetch refl refl (λ n by. refl))))
 fetch_change w (pass, Finish delivery status total entity moment) = finish_cases w pass (FetchChange w (pass, Finish delivery status total entity moment)) delivery status total entity moment
@@ -284,7 +284,7 @@ pub fetch_changes : (w : World) (e : Entry) → Changes e (begun_fetch (reply_in
 fetch_changes w e = subst (Changes e (begun_fetch (reply_in w e)) ends_fetch w.delivering.fetches) (sym (fetches_are w e)) (fetch_change w e)
 
 pub other_fetch : (n by : ℕ) (e : Entry) → (e.0 ≡ by → ⊥) → ends_fetch n by e ≡ false
-other_fetch n by (pass, Admit asked place moment) other = refl
+other_fetch n by (pass, Admit request moment) other = refl
 other_fetch n by (pass, FetchEnd fetch outcome moment) other = and_right (fetch == n) (pass == by) (ne_eqb pass by other)
 other_fetch n by (pass, Finish delivery status total entity moment) other = refl
 other_fetch n by (pass, RefreshBegin moment) other = refl
@@ -311,10 +311,10 @@ abbrev DeliveryChange : World → Entry → Reply → Type 0
 DeliveryChange w e r = Changes e (begun_delivery r) ends_delivery w.delivering.deliveries (deliveries_after w e r)
 
 delivery_change : (w : World) (e : Entry) → DeliveryChange w e (reply_in w e)
-delivery_change w (pass, Admit asked place moment) = admit_cases w pass asked place moment (DeliveryChange w (pass, Admit asked place moment))
-    (λ n. inl (stays_as refl refl (λ n pass. refl))) (λ rule. inr (inl (record { one = record { number = w.counts.delivered + 1; pass = pass; at = w.entries + 1; what = admission asked place moment None false }; number = refl; by = refl; more = refl; others = λ n pass. refl })))
-    (λ kept is. inr (inl (record { one = record { number = w.counts.delivered + 1; pass = pass; at = w.entries + 1; what = admission asked place moment (ccid_at (index_of w.delivering) asked.target) true }; number = refl; by = refl; more = refl; others = λ n pass. refl })))
-    (λ is. inr (inl (record { one = record { number = w.counts.delivered + 1; pass = pass; at = w.entries + 1; what = admission asked place moment (ccid_at (index_of w.delivering) asked.target) false }; number = refl; by = refl; more = refl; others = λ n pass. refl })))
+delivery_change w (pass, Admit request moment) = admit_cases w pass request moment (DeliveryChange w (pass, Admit request moment))
+    (λ n. inl (stays_as refl refl (λ n pass. refl))) (λ rule. inr (inl (record { one = record { number = w.counts.delivered + 1; pass = pass; at = w.entries + 1; what = admission request moment None false }; number = refl; by = refl; more = refl; others = λ n pass. refl })))
+    (λ kept is. inr (inl (record { one = record { number = w.counts.delivered + 1; pass = pass; at = w.entries + 1; what = admission request moment (ccid_at (index_of w.delivering) request.asked.target) true }; number = refl; by = refl; more = refl; others = λ n pass. refl })))
+    (λ is. inr (inl (record { one = record { number = w.counts.delivered + 1; pass = pass; at = w.entries + 1; what = admission request moment (ccid_at (index_of w.delivering) request.asked.target) false }; number = refl; by = refl; more = refl; others = λ n pass. refl })))
 delivery_change w (pass, FetchEnd fetch outcome moment) = fetch_end_cases w pass (DeliveryChange w (pass, FetchEnd fetch outcome moment)) fetch outcome moment
     (inl (stays_as refl refl (λ n pass. refl))) (λ begun is. inl (stays_as refl refl (λ n pass. refl)))
 delivery_change w (pass, Finish delivery status total entity moment) = finish_cases w pass (DeliveryChange w (pass, Finish delivery status total entity moment)) delivery status total entity moment
@@ -349,7 +349,7 @@ pub delivery_changes : (w : World) (e : Entry) → Changes e (begun_delivery (re
 delivery_changes w e = subst (Changes e (begun_delivery (reply_in w e)) ends_delivery w.delivering.deliveries) (sym (deliveries_are w e)) (delivery_change w e)
 
 pub other_delivery : (n by : ℕ) (e : Entry) → (e.0 ≡ by → ⊥) → ends_delivery n by e ≡ false
-other_delivery n by (pass, Admit asked place moment) other = refl
+other_delivery n by (pass, Admit request moment) other = refl
 other_delivery n by (pass, FetchEnd fetch outcome moment) other = refl
 other_delivery n by (pass, Finish delivery status total entity moment) other = and_right (delivery == n) (pass == by) (ne_eqb pass by other)
 other_delivery n by (pass, RefreshBegin moment) other = refl

@@ -3,9 +3,7 @@ use Rattle.std.specs.Prelude.{ℕ, ◌+◌, Bool, true, false, if◌then◌else�
 use Rattle.std.specs.List.{find}
 use Rattle.std.specs.Option.{option_and_then, option_map, option_map_or}
 use Rattle.std.specs.declared.option.Option.{Option}
-use Rattle.cdni_base.specs.declared.asked.Asked.{Asked}
 use Rattle.cdni_log.specs.declared.row.Row.{Row}
-use Rattle.location_acl.specs.declared.footprint.Place.{Place}
 use Rattle.metadata_objects.specs.Tree.{TreeData}
 use Rattle.targets.specs.Target.{url_text}
 use Rattle.targets.specs.declared.target.Protocol.{Protocol}
@@ -16,7 +14,7 @@ use Rattle.trigger_command.specs.declared.spec.TriggerKind.{TriggerKind}
 use Rattle.trigger_command.specs.declared.spec.TriggerKind.TheVariants.{Preposition, Invalidate, Purge}
 use Rattle.trigger_status.specs.declared.job.JobStatus.TheVariants.{Pending}
 use Rattle.upstream_gate.specs.declared.outcome.Outcome.{Outcome}
-use Rattle.history.specs.Event.{Entry, Event, Admit, FetchEnd, Finish, RefreshBegin, RefreshEnd, Command, Advance, Cancel, Delete, ReadStatus, Lists, Cut, LogFile, ListLogs, DropLog}
+use Rattle.history.specs.Event.{Entry, Event, Admit, FetchEnd, Finish, RefreshBegin, RefreshEnd, Command, Advance, Cancel, Delete, ReadStatus, Lists, Cut, LogFile, ListLogs, DropLog, Request}
 use Rattle.history.specs.Kept.{full_content, unhit, used, with_gained}
 use Rattle.history.specs.Metadata.{ccid_at, key_at}
 use Rattle.history.specs.Reply.{gained_of, reply_in}
@@ -68,8 +66,8 @@ fetching w target = record {
 
 -- a fetch begins with an Admit that is answered Miss, and with a step of a trigger; its FetchEnd ends it
 abbrev pub fetches_after : World → Entry → Reply → List (Begun Fetching)
-fetches_after w (pass, Admit asked place moment) (reply.Miss delivery fetch plan) = w.delivering.fetches
-    ++ record { number = fetch; pass = pass; at = position w; what = fetching w asked.target } ∷ []
+fetches_after w (pass, Admit request moment) (reply.Miss delivery fetch plan) = w.delivering.fetches
+    ++ record { number = fetch; pass = pass; at = position w; what = fetching w request.asked.target } ∷ []
 fetches_after w (pass, Advance id moment) (reply.Fetch fetch plan target) = w.delivering.fetches
     ++ record { number = fetch; pass = pass; at = position w; what = fetching w target } ∷ []
 fetches_after w (pass, FetchEnd fetch outcome moment) answer = closed fetch pass w.delivering.fetches
@@ -96,8 +94,8 @@ starts_after w entry answer = w.delivering.starts
 
 -- a hit uses its object; the end of an open fetch keeps what it gained; a start removes what it hits
 abbrev pub kept_after : World → Entry → Reply → List Kept
-kept_after w (pass, Admit asked place moment) (reply.Hit delivery fetch kind body) =
-    used (key_at (index_of w.delivering) asked.target) w.delivering.kept
+kept_after w (pass, Admit request moment) (reply.Hit delivery fetch kind body) =
+    used (key_at (index_of w.delivering) request.asked.target) w.delivering.kept
 kept_after w (pass, FetchEnd fetch outcome moment) answer = with_gained w.made.limits.cache w.delivering.kept
     (option_and_then (gained_of w outcome) (find (is_open fetch pass) w.delivering.fetches))
 kept_after w (pass, Advance id moment) reply.Started = unhit (start_of w id) w.delivering.kept
@@ -111,14 +109,15 @@ is_secure Http = false
 is_secure Https = true
 
 -- what a row will say of the request
-abbrev pub admission : Asked → Place → ℕ → Option (List ℕ) → Bool → Admission
-admission asked place moment ccid cached = record {
+abbrev pub admission : Request → ℕ → Option (List ℕ) → Bool → Admission
+admission request moment ccid cached = record {
   moment = moment;
-  asn = place.asn;
-  method = asked.method;
-  uri = url_text (is_secure asked.protocol) asked.target;
+  asn = request.place.asn;
+  method = request.asked.method;
+  uri = url_text (is_secure request.asked.protocol) request.asked.target;
   ccid = ccid;
   cached = cached;
+  extra = request.extra;
 }
 
 abbrev pub delivery_begun : World → ℕ → ℕ → Admission → List (Begun Admission)
@@ -127,12 +126,12 @@ delivery_begun w pass delivery what =
 
 -- a delivery begins with an Admit that is answered Denied, Hit or Miss; its Finish ends it
 abbrev pub deliveries_after : World → Entry → Reply → List (Begun Admission)
-deliveries_after w (pass, Admit asked place moment) (reply.Denied delivery rule) =
-    delivery_begun w pass delivery (admission asked place moment None false)
-deliveries_after w (pass, Admit asked place moment) (reply.Hit delivery fetch kind body) = delivery_begun w pass delivery
-    (admission asked place moment (ccid_at (index_of w.delivering) asked.target) true)
-deliveries_after w (pass, Admit asked place moment) (reply.Miss delivery fetch plan) = delivery_begun w pass delivery
-    (admission asked place moment (ccid_at (index_of w.delivering) asked.target) false)
+deliveries_after w (pass, Admit request moment) (reply.Denied delivery rule) =
+    delivery_begun w pass delivery (admission request moment None false)
+deliveries_after w (pass, Admit request moment) (reply.Hit delivery fetch kind body) = delivery_begun w pass delivery
+    (admission request moment (ccid_at (index_of w.delivering) request.asked.target) true)
+deliveries_after w (pass, Admit request moment) (reply.Miss delivery fetch plan) = delivery_begun w pass delivery
+    (admission request moment (ccid_at (index_of w.delivering) request.asked.target) false)
 deliveries_after w (pass, Finish delivery status total entity moment) answer =
     closed delivery pass w.delivering.deliveries
 deliveries_after w entry answer = w.delivering.deliveries
@@ -150,6 +149,7 @@ row_of status total entity moment what = record {
   entity = entity;
   ccid = what.ccid;
   cached = what.cached;
+  extra = what.extra;
 }
 
 abbrev pub recorded : ℕ → ℕ → ℕ → ℕ → ℕ → Begun Admission → Recorded

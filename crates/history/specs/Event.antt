@@ -11,8 +11,15 @@ use Rattle.upstream_gate.specs.declared.outcome.Outcome.{Outcome}
 use Rattle.history.specs.declared.call.Call.{Call}
 use Rattle.history.specs.declared.call.Call.TheVariants as call
 
+-- a request for content, as it is admitted: what it asks for, where its client is, and the values that its record has for the
+-- header fields that are logged (RFC 7937, section 3.4.1)
+pub record Request : Type 0 where
+  pub asked : Asked
+  pub place : Place
+  pub extra : List (Option (List ℕ))
+
 pub data Event : Type 0 where
-  Admit : Asked → Place → ℕ → Event
+  Admit : Request → ℕ → Event
   FetchEnd : ℕ → Outcome → ℕ → Event
   Finish : ℕ → ℕ → ℕ → ℕ → ℕ → Event
   RefreshBegin : ℕ → Event
@@ -28,8 +35,11 @@ pub data Event : Type 0 where
   ListLogs : Event
   DropLog : ℕ → Event
 
+abbrev pub request_of : Asked → Place → List (Option (List ℕ)) → Request
+request_of asked place extra = record { asked = asked; place = place; extra = extra }
+
 abbrev pub event_of : Call → Event
-event_of (call.Admit asked place moment) = Admit asked place moment
+event_of (call.Admit asked place extra moment) = Admit (request_of asked place extra) moment
 event_of (call.FetchEnd fetch outcome moment) = FetchEnd fetch outcome moment
 event_of (call.Finish delivery status total entity moment) = Finish delivery status total entity moment
 event_of (call.RefreshBegin moment) = RefreshBegin moment

@@ -11,6 +11,7 @@ use Rattle.targets.specs.declared.target.Target.{Target}
 use Rattle.trigger_status.specs.declared.job.Filter.{Filter}
 use Rattle.upstream_gate.specs.declared.outcome.Outcome.{Outcome}
 use Rattle.cdni_log.specs.File.{file_text}
+use Rattle.cdni_log.specs.declared.row.FileHead.{FileHead}
 use Rattle.history.specs.Event.{Entry, Event, Admit, FetchEnd, Finish, RefreshBegin, RefreshEnd, Command, Advance, Cancel, Delete, ReadStatus, Lists, Cut, LogFile, ListLogs, DropLog}
 use Rattle.history.specs.Kept.{kept_of, gained, is_hit_since}
 use Rattle.history.specs.Metadata.{forbidden, is_skipped, key_at, plan_at}
@@ -20,6 +21,7 @@ use Rattle.history.specs.World.{Begun, Delivering, Filed, Installed, Kept, Recor
 use Rattle.history.specs.declared.begun.Fetching.{Fetching}
 use Rattle.history.specs.declared.reply.Reply.{Reply}
 use Rattle.history.specs.declared.reply.Reply.TheVariants as reply
+use Rattle.history.specs.declared.heading.Heading.{Heading}
 
 -- an answer that opens something: full, where as many as the limit were opened
 abbrev pub opening : World → Reply → Reply
@@ -150,11 +152,20 @@ cut_reply w [] = reply.NothingToCut
 cut_reply w (row ∷ rows) = if length w.controlling.files == w.made.limits.files
     then reply.Full (length w.controlling.files) else opening w (reply.File (w.counts.filed + 1))
 
--- its text is that of its rows, under the origin of the node
-abbrev pub log_reply : List ℕ → ℕ → Option Filed → Reply
-log_reply origin number None = reply.Unknown number
-log_reply origin number (Some file) =
-    reply.LogText (file_text (record { number = file.number; moment = file.moment; origin = origin }) file.rows)
+-- what the file of this number, cut at this moment, says at its top
+abbrev pub file_head : Heading → ℕ → ℕ → FileHead
+file_head heading number moment = record {
+  number = number;
+  moment = moment;
+  origin = heading.origin;
+  fields = heading.fields;
+}
+
+-- its text is that of its rows, under the heading of the node
+abbrev pub log_reply : Heading → ℕ → Option Filed → Reply
+log_reply heading number None = reply.Unknown number
+log_reply heading number (Some file) =
+    reply.LogText (file_text (file_head heading file.number file.moment) file.rows)
 
 abbrev pub drop_reply : ℕ → Option Filed → Reply
 drop_reply number None = reply.Unknown number
@@ -163,7 +174,7 @@ drop_reply number (Some file) = reply.Dropped
 -- ---- the whole
 
 unfoldable pub reply_in : World → Entry → Reply
-reply_in w (pass, Admit asked place moment) = admit_reply w asked place moment
+reply_in w (pass, Admit request moment) = admit_reply w request.asked request.place moment
 reply_in w (pass, FetchEnd fetch outcome moment) =
     fetch_end_reply w fetch outcome (find (is_open fetch pass) w.delivering.fetches)
 reply_in w (pass, Finish delivery status total entity moment) =
@@ -179,6 +190,6 @@ reply_in w (pass, Delete id) = delete_reply id (trigger_of id w.controlling.trig
 reply_in w (pass, ReadStatus id) = status_reply id (trigger_of id w.controlling.triggers)
 reply_in w (pass, Lists filter) = reply.Collection filter (listed filter w.controlling.triggers)
 reply_in w (pass, Cut moment) = cut_reply w w.delivering.unfiled
-reply_in w (pass, LogFile number) = log_reply w.made.origin number (file_of number w.controlling.files)
+reply_in w (pass, LogFile number) = log_reply w.made.heading number (file_of number w.controlling.files)
 reply_in w (pass, ListLogs) = reply.Numbers (map (λ file. file.number) w.controlling.files)
 reply_in w (pass, DropLog number) = drop_reply number (file_of number w.controlling.files)

@@ -3,6 +3,7 @@ use Rattle.std.specs.Prelude.{ℕ, Bool, List, [], None, ◌==◌, ◌&&◌}
 use Rattle.std.specs.declared.option.Option.{Option}
 use Rattle.cdni_base.specs.Key.{KeyParts}
 use Rattle.cdni_base.specs.Limits.{Bounds}
+use Rattle.cdni_log.specs.declared.field.Field.{Field}
 use Rattle.cdni_log.specs.declared.row.Row.{Row}
 use Rattle.metadata_objects.specs.Tree.{TreeData}
 use Rattle.trigger_command.specs.declared.selection.Selection.{Selection}
@@ -10,11 +11,15 @@ use Rattle.trigger_command.specs.declared.spec.TriggerKind.{TriggerKind}
 use Rattle.trigger_status.specs.declared.job.Job.{Job}
 use Rattle.history.specs.declared.begun.Admission.{Admission}
 use Rattle.history.specs.declared.begun.Fetching.{Fetching}
+use Rattle.history.specs.declared.heading.Heading.{Heading}
 
--- what a node is made with: its limits, and the host that its log files claim (RFC 7937, section 3.3)
+-- what a node is made with: its limits, and what its log files say at their top (RFC 7937, section 3.3)
 pub record Made : Type 0 where
   pub limits : Bounds
-  pub origin : List ℕ
+  pub heading : Heading
+
+abbrev pub node_made : Bounds → List ℕ → List Field → Made
+node_made limits origin fields = record { limits = limits; heading = record { origin = origin; fields = fields } }
 
 -- ---- deliveries, fetches and metadata
 

@@ -1,6 +1,7 @@
 //! What is known of deliveries and fetches from their beginning on.
 
 use cdni_base::{Key, Moment, Text};
+use cdni_log::ExtraList;
 
 /// A delivery that was admitted: what its record will say of it.
 #[derive(Drop)]
@@ -16,6 +17,8 @@ pub struct Admission {
     pub ccid: Option<Text>,
     /// Whether the content was kept.
     pub cached: bool,
+    /// What its record has of the request's header fields, in the order of the fields that are logged.
+    pub extra: ExtraList,
 }
 
 /// A fetch that was begun: what it brings is kept under this key, and is of this collection (RFC 8006, section 4.2.8).

@@ -1,6 +1,7 @@
 //! What a node is asked.
 
 use cdni_base::{Asked, Moment};
+use cdni_log::ExtraList;
 use location_acl::Place;
 use metadata_objects::Tree;
 use trigger_command::{IdList, Spec};
@@ -10,10 +11,11 @@ use upstream_gate::Outcome;
 /// A call of a node. Each is one step. Moments are in milliseconds since 1970 UTC.
 #[derive(Drop)]
 pub enum Call {
-    /// The request of a client at this place would be delivered.
+    /// The request of a client at this place would be delivered; its record has these values of header fields.
     Admit {
         asked: Asked,
         place: Place,
+        extra: ExtraList,
         moment: Moment,
     },
     /// A fetch ended so.

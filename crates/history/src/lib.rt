@@ -5,9 +5,11 @@
 
 mod begun;
 mod call;
+mod heading;
 pub mod laws;
 mod reply;
 
 pub use begun::{Admission, Fetching};
 pub use call::Call;
+pub use heading::Heading;
 pub use reply::Reply;

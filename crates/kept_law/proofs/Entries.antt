@@ -215,18 +215,18 @@ module _ (w : World) (pass id moment : ℕ) where
   })
 
 pub change : (w : World) (e : Entry) → Change w e (reply_in w e) (stock_after w e (reply_in w e))
-change w (pass, Admit asked place moment) = admit_cases w pass asked place moment (Changes w (pass, Admit asked place moment))
-    (λ n. same_so w (pass, Admit asked place moment) _ refl (λ fetch uses. uses))
-    (λ rule. same_so w (pass, Admit asked place moment) _ refl (λ fetch uses. uses))
+change w (pass, Admit request moment) = admit_cases w pass request moment (Changes w (pass, Admit request moment))
+    (λ n. same_so w (pass, Admit request moment) _ refl (λ fetch uses. uses))
+    (λ rule. same_so w (pass, Admit request moment) _ refl (λ fetch uses. uses))
     (λ kept is. inr (inr (inl (record {
-      key = key_at (index_of w.delivering) asked.target;
+      key = key_at (index_of w.delivering) request.asked.target;
       one = kept;
       found = is;
-      moved = λ i. record { kept = filter (λ k. not (is_of (key_at (index_of w.delivering) asked.target) k)) w.delivering.kept ++ ap option_to_list is i; opened = w.delivering.fetches; fetched = w.counts.fetched };
+      moved = λ i. record { kept = filter (λ k. not (is_of (key_at (index_of w.delivering) request.asked.target) k)) w.delivering.kept ++ ap option_to_list is i; opened = w.delivering.fetches; fetched = w.counts.fetched };
       this = refl;
       only = λ fetch uses. sym uses;
     }))))
-    (λ is. inr (inl (record { what = fetching w asked.target; more = refl; unused = λ fetch uses. uses })))
+    (λ is. inr (inl (record { what = fetching w request.asked.target; more = refl; unused = λ fetch uses. uses })))
 change w (pass, FetchEnd fetch ended moment) = ends w pass fetch ended moment
 change w (pass, Advance id moment) = advance_cases w pass (Changes w (pass, Advance id moment))
     (λ n. same_so w (pass, Advance id moment) _ refl (λ fetch uses. uses))

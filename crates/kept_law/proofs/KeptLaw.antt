@@ -9,8 +9,6 @@ use Rattle.std.proofs.lemmas.List.Kept.{AllPairs-filter}
 use Rattle.std.proofs.lemmas.List.Quantifiers.{all_pairs_push}
 use Rattle.cdni_base.specs.Key.{KeyParts}
 use Rattle.cdni_base.specs.KeyEqualityLemmas.{key_decides}
-use Rattle.cdni_base.specs.declared.asked.Asked.{Asked}
-use Rattle.location_acl.specs.declared.footprint.Place.{Place}
 use Rattle.trigger_command.proofs.SelectionLemmas.{hits_decides}
 use Rattle.trigger_command.specs.Selection.{Hits, hits}
 use Rattle.trigger_command.specs.declared.spec.TriggerKind.{TriggerKind}
@@ -29,7 +27,7 @@ use Rattle.delivery_law.proofs.StartLaw.{no_preposition}
 use Rattle.history.proofs.Cases.{admit_cases, advance_cases}
 use Rattle.history.proofs.Words.{world_none, world_push}
 use Rattle.history.specs.After.{after, after_reply, closed, kept_after, position, start_by, start_of}
-use Rattle.history.specs.Event.{Entry, History, Admit, FetchEnd, Finish, RefreshBegin, RefreshEnd, Command, Advance, Cancel, Delete, ReadStatus, Lists, Cut, LogFile, ListLogs, DropLog}
+use Rattle.history.specs.Event.{Entry, History, Admit, FetchEnd, Finish, RefreshBegin, RefreshEnd, Command, Advance, Cancel, Delete, ReadStatus, Lists, Cut, LogFile, ListLogs, DropLog, Request}
 use Rattle.history.specs.History.{reply_to, world_of}
 use Rattle.history.specs.Kept.{brought, full_content, is_hit_since, is_newer, is_of, kept_of, others, unhit}
 use Rattle.history.specs.Metadata.{key_at}
@@ -392,16 +390,16 @@ module _ (made : Made) (h : History) where
       ]
     ]
 
-  module _ (pass : ℕ) (asked : Asked) (place : Place) (moment : ℕ) where
+  module _ (pass : ℕ) (request : Request) (moment : ℕ) where
     abbrev the_key : KeyParts
-    the_key = key_at (index_after made h) asked.target
+    the_key = key_at (index_after made h) request.asked.target
 
     one_passes : AllPairs (λ (x y : Kept). is_of the_key x ≡ true → is_of the_key y ≡ false) v.delivering.kept
     one_passes = λ i j d order below passes. false_from_ne_true (is_of the_key (get_or v.delivering.kept j d)) (λ also.
         the_shelf.keys i j d order below (sym ((key_decides the_key (get_or v.delivering.kept i d).key).0 passes) ∙ (key_decides the_key (get_or v.delivering.kept j d).key).0 also))
 
     gives : (kept : Kept) → kept_of the_key v.delivering.kept ≡ Some kept
-        → GivesObject made h asked.target kept.fetch kept.kind kept.body (filter (λ k. not (is_of the_key k)) v.delivering.kept ++ option_to_list (find (is_of the_key) v.delivering.kept))
+        → GivesObject made h request.asked.target kept.fetch kept.kind kept.body (filter (λ k. not (is_of the_key k)) v.delivering.kept ++ option_to_list (find (is_of the_key) v.delivering.kept))
     gives kept is =
         let sides = around (is_of the_key) v.delivering.kept kept one_passes is in
         record {
@@ -417,10 +415,10 @@ module _ (made : Made) (h : History) where
         }
 
     abbrev admit : Entry
-    admit = (pass, Admit asked place moment)
+    admit = (pass, Admit request moment)
 
     admit_leaves : LeavesObjects made h admit (reply_to made h admit) (kept_after v admit (reply_to made h admit))
-    admit_leaves = admit_cases v pass asked place moment (λ r. LeavesObjects made h admit r (kept_after v admit r)) (λ n. refl) (λ rule. refl) gives (λ is. refl)
+    admit_leaves = admit_cases v pass request moment (λ r. LeavesObjects made h admit r (kept_after v admit r)) (λ n. refl) (λ rule. refl) gives (λ is. refl)
 
   module _ (pass id moment : ℕ) where
     abbrev advance : Entry
@@ -460,7 +458,7 @@ module _ (made : Made) (h : History) where
     advance_by (Some trigger) is = advance_cases v pass AdvanceLeaves (λ n. refl) (λ status. refl) (λ by. refl) (λ n. refl) (started trigger is) refl (λ n. refl) (λ target. refl) id moment refl
 
   leaves : (e : Entry) → LeavesObjects made h e (reply_to made h e) (kept_after v e (reply_to made h e))
-  leaves (pass, Admit asked place moment) = admit_leaves pass asked place moment
+  leaves (pass, Admit request moment) = admit_leaves pass request moment
   leaves (pass, FetchEnd fetch ended moment) = fetch_leaves pass fetch ended moment
   leaves (pass, Advance id moment) = advance_by pass id moment (trigger_of id v.controlling.triggers) refl
   leaves (pass, Finish delivery status total entity moment) = refl

@@ -36,7 +36,7 @@ AreOthers IsSo objects others = (test : Kept → Bool) × ((kept : Kept) → IsT
 -- the entry brings what this fetch fetched, and it is kept, or gives it
 abbrev pub Uses : ℕ → Entry → Reply → Type 0
 Uses fetch (pass, FetchEnd ended outcome moment) (reply.Ended true) = ended ≡ fetch
-Uses fetch (pass, Admit asked place moment) (reply.Hit delivery given kind body) = given ≡ fetch
+Uses fetch (pass, Admit request moment) (reply.Hit delivery given kind body) = given ≡ fetch
 Uses fetch entry answer = ⊥
 
 -- what this fetch brought was used at this position
@@ -124,8 +124,8 @@ LeavesObjects made h (pass, FetchEnd fetch ended moment) answer objects =
     EndsFetch made h pass fetch ended answer objects
     ⊎ ((IsOpen fetch pass (world_of made h).delivering.fetches → ⊥) × (answer ≡ reply.NotOpen fetch)
     × (objects ≡ objects_after made h))
-LeavesObjects made h (pass, Admit asked place moment) (reply.Hit delivery fetch kind body) objects =
-    GivesObject made h asked.target fetch kind body objects
+LeavesObjects made h (pass, Admit request moment) (reply.Hit delivery fetch kind body) objects =
+    GivesObject made h request.asked.target fetch kind body objects
 LeavesObjects made h (pass, Advance id moment) reply.Started objects = StartsTrigger made h id objects
 LeavesObjects made h entry answer objects = objects ≡ objects_after made h
 

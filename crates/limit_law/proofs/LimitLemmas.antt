@@ -5,13 +5,12 @@ use Rattle.std.proofs.lemmas.List.{append-nil}
 use Rattle.std.proofs.lemmas.Option.{none-some, same_Some}
 use Rattle.cdni_base.specs.declared.asked.Asked.{Asked}
 use Rattle.cdni_base.specs.declared.rule.Rule.{Rule}
-use Rattle.location_acl.specs.declared.footprint.Place.{Place}
 use Rattle.trigger_command.specs.Spec.{SpecParts}
 use Rattle.history.proofs.Cases.{cancel_cases, delete_cases, drop_cases, either, fetch_end_cases, finish_cases, list_cases, log_cases, logs_cases, refresh_end_cases, status_cases}
 use Rattle.history.proofs.Numbers.{counted}
 use Rattle.history.proofs.Words.{world_none, world_push}
 use Rattle.history.specs.After.{after, after_reply, opened_by}
-use Rattle.history.specs.Event.{Entry, Event, History, Admit, FetchEnd, Finish, RefreshBegin, RefreshEnd, Command, Advance, Cancel, Delete, ReadStatus, Lists, Cut, LogFile, ListLogs, DropLog}
+use Rattle.history.specs.Event.{Entry, Event, History, Admit, FetchEnd, Finish, RefreshBegin, RefreshEnd, Command, Advance, Cancel, Delete, ReadStatus, Lists, Cut, LogFile, ListLogs, DropLog, Request}
 use Rattle.history.specs.History.{reply_to, world_of}
 use Rattle.history.specs.Kept.{kept_of}
 use Rattle.history.specs.Metadata.{forbidden, is_skipped, key_at}
@@ -97,7 +96,7 @@ module _ (w : World) where
   IsOpenedOut count = IsAt w.made.limits.opened w.counts.opened count
 
   abbrev FullOf : Event → ℕ → Type 0
-  FullOf (Admit asked place moment) count = IsAt w.made.limits.rows (pending w.delivering) count ⊎ IsOpenedOut count
+  FullOf (Admit request moment) count = IsAt w.made.limits.rows (pending w.delivering) count ⊎ IsOpenedOut count
   FullOf (Command spec moment) count = IsAt w.made.limits.triggers (length w.controlling.triggers) count ⊎ IsOpenedOut count
   FullOf (Cut moment) count = IsAt w.made.limits.files (length w.controlling.files) count ⊎ IsOpenedOut count
   FullOf (RefreshBegin moment) count = IsOpenedOut count
@@ -105,7 +104,7 @@ module _ (w : World) where
   FullOf event count = ⊥
 
   abbrev RoomFor : Event → Type 0
-  RoomFor (Admit asked place moment) = pending w.delivering ≢ w.made.limits.rows
+  RoomFor (Admit request moment) = pending w.delivering ≢ w.made.limits.rows
   RoomFor (Command spec moment) = length w.controlling.triggers ≢ w.made.limits.triggers
   RoomFor (Cut moment) = length w.controlling.files ≢ w.made.limits.files
   RoomFor event = Unit {0}
@@ -154,11 +153,11 @@ module _ (w : World) where
       by None = refl
       by (Some kept) = refl
 
-  admit_tells : (pass : ℕ) (asked : Asked) (place : Place) (moment : ℕ) → Tells (Admit asked place moment) (reply_in w (pass, Admit asked place moment))
+  admit_tells : (pass : ℕ) (request : Request) (moment : ℕ) → Tells (Admit request moment) (reply_in w (pass, Admit request moment))
   unfolding reply_in
-  admit_tells pass asked place moment = limited (Admit asked place moment) (pending w.delivering) w.made.limits.rows _ (λ count is. inl is)
-      (λ room. opened (Admit asked place moment) (judged_reply w asked (forbidden (index_of w.delivering) (invalid_of w.delivering) asked place moment)) room (λ count is. inr is)
-      (judged_untold asked (forbidden (index_of w.delivering) (invalid_of w.delivering) asked place moment)))
+  admit_tells pass request moment = limited (Admit request moment) (pending w.delivering) w.made.limits.rows _ (λ count is. inl is)
+      (λ room. opened (Admit request moment) (judged_reply w request.asked (forbidden (index_of w.delivering) (invalid_of w.delivering) request.asked request.place moment)) room (λ count is. inr is)
+      (judged_untold request.asked (forbidden (index_of w.delivering) (invalid_of w.delivering) request.asked request.place moment)))
 
   begin_by : (moment : ℕ) (next : Option ℕ) → Tells (RefreshBegin moment) (begin_reply w next)
   begin_by moment (Some next) = quiet (RefreshBegin moment) (reply.NotDue next) refl refl
@@ -201,7 +200,7 @@ module _ (w : World) where
   cut_tells pass moment = cut_by moment w.delivering.unfiled
 
   tells : (pass : ℕ) (event : Event) → Tells event (reply_in w (pass, event))
-  tells pass (Admit asked place moment) = admit_tells pass asked place moment
+  tells pass (Admit request moment) = admit_tells pass request moment
   tells pass (RefreshBegin moment) = begin_tells pass moment
   tells pass (Command spec moment) = command_tells pass spec moment
   tells pass (Advance id moment) = advance_tells pass id moment
@@ -234,8 +233,8 @@ module _ (made : Made) (h : History) where
   out count is = (is.0 ∙ ap (λ (m : Made). m.limits.opened) limits_are, is.1 ∙ opened_is)
 
   full_in : (event : Event) (count : ℕ) → FullOf v event count → IsFull made h event count
-  full_in (Admit asked place moment) count (inl is) = inl (is.0 ∙ ap (λ (m : Made). m.limits.rows) limits_are, is.1)
-  full_in (Admit asked place moment) count (inr is) = inr (out count is)
+  full_in (Admit request moment) count (inl is) = inl (is.0 ∙ ap (λ (m : Made). m.limits.rows) limits_are, is.1)
+  full_in (Admit request moment) count (inr is) = inr (out count is)
   full_in (Command spec moment) count (inl is) = inl (is.0 ∙ ap (λ (m : Made). m.limits.triggers) limits_are, is.1)
   full_in (Command spec moment) count (inr is) = inr (out count is)
   full_in (Cut moment) count (inl is) = inl (is.0 ∙ ap (λ (m : Made). m.limits.files) limits_are, is.1)
@@ -254,7 +253,7 @@ module _ (made : Made) (h : History) where
   full_in (DropLog number) count is = is
 
   room_in : (event : Event) → RoomFor v event → HasRoom made h event
-  room_in (Admit asked place moment) room = λ same. room (same ∙ sym (ap (λ (m : Made). m.limits.rows) limits_are))
+  room_in (Admit request moment) room = λ same. room (same ∙ sym (ap (λ (m : Made). m.limits.rows) limits_are))
   room_in (Command spec moment) room = λ same. room (same ∙ sym (ap (λ (m : Made). m.limits.triggers) limits_are))
   room_in (Cut moment) room = λ same. room (same ∙ sym (ap (λ (m : Made). m.limits.files) limits_are))
   room_in (RefreshBegin moment) room = tt

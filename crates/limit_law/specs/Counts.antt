@@ -45,7 +45,7 @@ IsAt limit there count = (count ≡ limit) × (count ≡ there)
 -- which limit a call has reached that is answered that it is full: for a request that of deliveries and rows, for a command
 -- that of triggers, for a cut that of log files, and for each call that opens something that of all that was opened
 abbrev pub IsFull : Made → History → Event → ℕ → Type 0
-IsFull made h (Admit asked place moment) count = IsAt made.limits.rows (pending_in made h) count
+IsFull made h (Admit request moment) count = IsAt made.limits.rows (pending_in made h) count
     ⊎ IsAt made.limits.opened (opened_in made h) count
 IsFull made h (Command spec moment) count = IsAt made.limits.triggers (triggers_in made h) count
     ⊎ IsAt made.limits.opened (opened_in made h) count
@@ -57,7 +57,7 @@ IsFull made h event count = ⊥
 
 -- the limit of this kind of call, beside that of all that was opened, is not reached
 abbrev pub HasRoom : Made → History → Event → Type 0
-HasRoom made h (Admit asked place moment) = pending_in made h ≢ made.limits.rows
+HasRoom made h (Admit request moment) = pending_in made h ≢ made.limits.rows
 HasRoom made h (Command spec moment) = triggers_in made h ≢ made.limits.triggers
 HasRoom made h (Cut moment) = files_in made h ≢ made.limits.files
 HasRoom made h event = Unit {0}

@@ -50,7 +50,7 @@ not_ended n number pass by other = ap (λ t. not (n == number && t)) (ne_eqb by 
 
 no_delivery : (number pass : ℕ) (entry : Entry) → (entry.0 ≡ pass → ⊥) → not (ends_delivery number pass entry) ≡ true
 no_delivery number pass (by, Finish delivery status total entity moment) other = not_ended delivery number pass by other
-no_delivery number pass (by, Admit asked place moment) other = refl
+no_delivery number pass (by, Admit request moment) other = refl
 no_delivery number pass (by, FetchEnd fetch outcome moment) other = refl
 no_delivery number pass (by, RefreshBegin moment) other = refl
 no_delivery number pass (by, RefreshEnd refresh tree moment) other = refl
@@ -67,7 +67,7 @@ no_delivery number pass (by, DropLog file) other = refl
 
 no_fetch : (number pass : ℕ) (entry : Entry) → (entry.0 ≡ pass → ⊥) → not (ends_fetch number pass entry) ≡ true
 no_fetch number pass (by, FetchEnd fetch outcome moment) other = not_ended fetch number pass by other
-no_fetch number pass (by, Admit asked place moment) other = refl
+no_fetch number pass (by, Admit request moment) other = refl
 no_fetch number pass (by, Finish delivery status total entity moment) other = refl
 no_fetch number pass (by, RefreshBegin moment) other = refl
 no_fetch number pass (by, RefreshEnd refresh tree moment) other = refl
@@ -84,7 +84,7 @@ no_fetch number pass (by, DropLog file) other = refl
 
 no_refresh : (number pass : ℕ) (entry : Entry) → (entry.0 ≡ pass → ⊥) → not (ends_refresh number pass entry) ≡ true
 no_refresh number pass (by, RefreshEnd refresh tree moment) other = not_ended refresh number pass by other
-no_refresh number pass (by, Admit asked place moment) other = refl
+no_refresh number pass (by, Admit request moment) other = refl
 no_refresh number pass (by, FetchEnd fetch outcome moment) other = refl
 no_refresh number pass (by, Finish delivery status total entity moment) other = refl
 no_refresh number pass (by, RefreshBegin moment) other = refl
@@ -122,7 +122,7 @@ pub ends_open_over : (made : Made) (h others : History) (pass : ℕ) (event : Ev
 ends_open_over made h others pass (FetchEnd fetch outcome moment) are begun = begun_over made begun_fetch ends_fetch no_fetch h others fetch pass are begun
 ends_open_over made h others pass (RefreshEnd refresh tree moment) are begun = begun_over made begun_refresh ends_refresh no_refresh h others refresh pass are begun
 ends_open_over made h others pass (Finish delivery status total entity moment) are begun = begun_over made begun_delivery ends_delivery no_delivery h others delivery pass are begun
-ends_open_over made h others pass (Admit asked place moment) are begun = absurd begun
+ends_open_over made h others pass (Admit request moment) are begun = absurd begun
 ends_open_over made h others pass (RefreshBegin moment) are begun = absurd begun
 ends_open_over made h others pass (Command spec moment) are begun = absurd begun
 ends_open_over made h others pass (Advance id moment) are begun = absurd begun

@@ -18,6 +18,7 @@ use Rattle.history.specs.declared.begun.Admission.{Admission}
 use Rattle.delivery_core.specs.Refreshes.{Refreshing, first_noted}
 use Rattle.shelf.specs.declared.kept_shelf.Flight.{Flight}
 use Rattle.history.specs.declared.reply.Reply.{Reply}
+use Rattle.history.specs.declared.heading.Heading.{Heading}
 use Rattle.metadata_objects.specs.Tree.{TreeData}
 use Rattle.node_core.proofs.StateLemmas.{state}
 use Rattle.node_core.specs.Answers.{answers_admit, answers_drop_log, answers_fetch_end, answers_finish, answers_log_file, answers_refresh_end}
@@ -49,12 +50,12 @@ shorter test (x ∷ xs) is =
 
 -- ---- ends
 
-module _ (edge edge' : EdgeView) (control control' : ControlView) (origin : List ℕ) (opened : ℕ) where
+module _ (edge edge' : EdgeView) (control control' : ControlView) (heading : Heading) (opened : ℕ) where
   fetch_by : (pass fetch : ℕ) (outcome : Outcome) (found : Option (Open Flight)) → find (is_named fetch pass) edge.fetches ≡ found → (ended : Option Bool) (r : Reply) → ended ≡ fetch_end_reply edge outcome found
-      → edge' ≡ fetch_end_after edge pass fetch outcome found → r ≡ fetch_ended fetch ended → (good : Bool) → control' ≡ fetch_told control fetch ended good → Ends (state edge control origin opened) (state edge' control' origin opened) (is_some found) r
+      → edge' ≡ fetch_end_after edge pass fetch outcome found → r ≡ fetch_ended fetch ended → (good : Bool) → control' ≡ fetch_told control fetch ended good → Ends (state edge control heading opened) (state edge' control' heading opened) (is_some found) r
   fetch_by pass fetch outcome None there ended r is left answer good moved = record {
     found = ap is_not_open (answer ∙ ap (fetch_ended fetch) is);
-    closed = λ _. ap (λ e. state e control' origin opened) left ∙ ap (λ c. state edge c origin opened) (moved ∙ ap (λ x. fetch_told control fetch x good) is);
+    closed = λ _. ap (λ e. state e control' heading opened) left ∙ ap (λ c. state edge c heading opened) (moved ∙ ap (λ x. fetch_told control fetch x good) is);
     freed = λ no. absurd (cc);
   }
   fetch_by pass fetch outcome (Some flight) there ended r is left answer good moved = record {
@@ -65,17 +66,17 @@ module _ (edge edge' : EdgeView) (control control' : ControlView) (origin : List
 
   pub fetch_ends : (pass fetch : ℕ) (outcome : Outcome) (ended : Option Bool) (r : Reply) → ended ≡ fetch_end_reply edge outcome (find (is_named fetch pass) edge.fetches)
       → edge' ≡ fetch_end_after edge pass fetch outcome (find (is_named fetch pass) edge.fetches) → r ≡ fetch_ended fetch ended → (good : Bool) → control' ≡ fetch_told control fetch ended good
-      → Ends (state edge control origin opened) (state edge' control' origin opened) (list_any (is_named fetch pass) edge.fetches) r
+      → Ends (state edge control heading opened) (state edge' control' heading opened) (list_any (is_named fetch pass) edge.fetches) r
   fetch_ends pass fetch outcome ended r is left answer good moved =
-      subst (λ t. Ends (state edge control origin opened) (state edge' control' origin opened) t r) (sym (any_found (is_named fetch pass) edge.fetches))
+      subst (λ t. Ends (state edge control heading opened) (state edge' control' heading opened) t r) (sym (any_found (is_named fetch pass) edge.fetches))
       (fetch_by pass fetch outcome (find (is_named fetch pass) edge.fetches) refl ended r is left answer good moved)
 
-module _ (edge edge' : EdgeView) (control : ControlView) (origin : List ℕ) (opened : ℕ) where
+module _ (edge edge' : EdgeView) (control : ControlView) (heading : Heading) (opened : ℕ) where
   finish_by : (pass delivery : ℕ) (row : Admission → Row) (found : Option (Open Admission)) → find (is_named delivery pass) edge.deliveries ≡ found → (number : Option ℕ) (r : Reply) → number ≡ finish_reply edge found
-      → edge' ≡ finish_after edge pass delivery row found → r ≡ finished delivery number → Ends (state edge control origin opened) (state edge' control origin opened) (is_some found) r
+      → edge' ≡ finish_after edge pass delivery row found → r ≡ finished delivery number → Ends (state edge control heading opened) (state edge' control heading opened) (is_some found) r
   finish_by pass delivery row None there number r is left answer = record {
     found = ap is_not_open (answer ∙ ap (finished delivery) is);
-    closed = λ _. ap (λ e. state e control origin opened) left;
+    closed = λ _. ap (λ e. state e control heading opened) left;
     freed = λ no. absurd (cc);
   }
   finish_by pass delivery row (Some one) there number r is left answer = record {
@@ -86,12 +87,12 @@ module _ (edge edge' : EdgeView) (control : ControlView) (origin : List ℕ) (op
 
   pub finish_ends : (pass delivery : ℕ) (row : Admission → Row) (number : Option ℕ) (r : Reply) → number ≡ finish_reply edge (find (is_named delivery pass) edge.deliveries)
       → edge' ≡ finish_after edge pass delivery row (find (is_named delivery pass) edge.deliveries) → r ≡ finished delivery number
-      → Ends (state edge control origin opened) (state edge' control origin opened) (list_any (is_named delivery pass) edge.deliveries) r
+      → Ends (state edge control heading opened) (state edge' control heading opened) (list_any (is_named delivery pass) edge.deliveries) r
   finish_ends pass delivery row number r is left answer =
-      subst (λ t. Ends (state edge control origin opened) (state edge' control origin opened) t r) (sym (any_found (is_named delivery pass) edge.deliveries))
+      subst (λ t. Ends (state edge control heading opened) (state edge' control heading opened) t r) (sym (any_found (is_named delivery pass) edge.deliveries))
       (finish_by pass delivery row (find (is_named delivery pass) edge.deliveries) refl number r is left answer)
 
-module _ (edge edge' : EdgeView) (control control' : ControlView) (origin : List ℕ) (opened : ℕ) where
+module _ (edge edge' : EdgeView) (control control' : ControlView) (heading : Heading) (opened : ℕ) where
   installed_open : (without : EdgeView) (refresh moment : ℕ) (tree : TreeData) (later : Option ℕ) → open_count (install_after without refresh tree moment (install_reply edge later)) ≡ open_count without
   installed_open without refresh moment tree None = refl
   installed_open without refresh moment tree (Some later) = refl
@@ -109,10 +110,10 @@ module _ (edge edge' : EdgeView) (control control' : ControlView) (origin : List
   fresh_found refresh None = installed_found refresh (newer edge refresh)
 
   refresh_by : (pass refresh : ℕ) (tree : Option TreeData) (found : Option (Open Refreshing)) → find (is_named refresh pass) edge.refreshes ≡ found → (ended : RefreshEnded) (r : Reply) → ended ≡ refresh_end_reply edge refresh tree found
-      → edge' ≡ refresh_end_after edge pass refresh tree found → r ≡ refresh_ended refresh ended → control' ≡ refresh_told control refresh ended → Ends (state edge control origin opened) (state edge' control' origin opened) (is_some found) r
+      → edge' ≡ refresh_end_after edge pass refresh tree found → r ≡ refresh_ended refresh ended → control' ≡ refresh_told control refresh ended → Ends (state edge control heading opened) (state edge' control' heading opened) (is_some found) r
   refresh_by pass refresh tree None there ended r is left answer moved = record {
     found = ap is_not_open (answer ∙ ap (refresh_ended refresh) is);
-    closed = λ _. ap (λ e. state e control' origin opened) left ∙ ap (λ c. state edge c origin opened) (moved ∙ ap (refresh_told control refresh) is);
+    closed = λ _. ap (λ e. state e control' heading opened) left ∙ ap (λ c. state edge c heading opened) (moved ∙ ap (refresh_told control refresh) is);
     freed = λ no. absurd (cc);
   }
   refresh_by pass refresh None (Some begun) there ended r is left answer moved = record {
@@ -129,9 +130,9 @@ module _ (edge edge' : EdgeView) (control control' : ControlView) (origin : List
 
   pub refresh_ends : (pass refresh : ℕ) (tree : Option TreeData) (ended : RefreshEnded) (r : Reply) → ended ≡ refresh_end_reply edge refresh tree (find (is_named refresh pass) edge.refreshes)
       → edge' ≡ refresh_end_after edge pass refresh tree (find (is_named refresh pass) edge.refreshes) → r ≡ refresh_ended refresh ended → control' ≡ refresh_told control refresh ended
-      → Ends (state edge control origin opened) (state edge' control' origin opened) (list_any (is_named refresh pass) edge.refreshes) r
+      → Ends (state edge control heading opened) (state edge' control' heading opened) (list_any (is_named refresh pass) edge.refreshes) r
   refresh_ends pass refresh tree ended r is left answer moved =
-      subst (λ t. Ends (state edge control origin opened) (state edge' control' origin opened) t r) (sym (any_found (is_named refresh pass) edge.refreshes))
+      subst (λ t. Ends (state edge control heading opened) (state edge' control' heading opened) t r) (sym (any_found (is_named refresh pass) edge.refreshes))
       (refresh_by pass refresh tree (find (is_named refresh pass) edge.refreshes) refl ended r is left answer moved)
 
 -- ---- which replies

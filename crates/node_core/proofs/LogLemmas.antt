@@ -17,10 +17,11 @@ use Rattle.history.specs.After.{after, after_reply}
 use Rattle.history.specs.Event.{Entry, History, Cut, DropLog, LogFile as ReadLog, ListLogs}
 use Rattle.history.specs.History.{world_of}
 use Rattle.history.specs.Reply as replies
-use Rattle.history.specs.Reply.{reply_in}
+use Rattle.history.specs.Reply.{file_head, reply_in}
 use Rattle.history.specs.World.{Filed, Made, Recorded, World}
 use Rattle.history.specs.declared.reply.Reply.{Reply}
 use Rattle.history.specs.declared.reply.Reply.TheVariants as reply
+use Rattle.history.specs.declared.heading.Heading.{Heading}
 use Rattle.node_core.proofs.EndLemmas.{any_found}
 use Rattle.node_core.proofs.StateLemmas.{after_opens, control_by, control_kept, left_by, same_opened, state, told}
 use Rattle.node_core.specs.Logs.{control_of, dropped_log, file_in, logged}
@@ -32,8 +33,8 @@ use Rattle.trigger_table.specs.Triggers.{TriggersView}
 same_some : {A : Type 0} {a b : A} → Some a ≡ Some b → a ≡ b
 same_some is = cc
 
-abbrev pub head_of : ℕ → ℕ → List ℕ → FileHead
-head_of number moment origin = record { number = number; moment = moment; origin = origin }
+abbrev pub head_of : ℕ → ℕ → Heading → FileHead
+head_of number moment heading = file_head heading number moment
 
 none_of : {A : Type 0} (xs : List A) → length xs ≡ 0 → xs ≡ []
 none_of [] is = refl
@@ -57,8 +58,8 @@ filed_by control control' number head head' rows rows' is after same all =
     let filed = filed_cases (length control.files == control.most) control control' number head rows is after in
     (filed.0, filed.1 ∙ ap (λ x. with_file control x rows) same ∙ ap (with_file control head') all)
 
-pub heads_are : (moment number number' : ℕ) (origin origin' : List ℕ) → number ≡ number' → origin ≡ origin' → head_of (number + 1) moment origin ≡ head_of (number' + 1) moment origin'
-heads_are moment number number' origin origin' is same = ap (λ n. head_of (n + 1) moment origin) is ∙ ap (head_of (number' + 1) moment) same
+pub heads_are : (moment number number' : ℕ) (heading heading' : Heading) → number ≡ number' → heading ≡ heading' → head_of (number + 1) moment heading ≡ head_of (number' + 1) moment heading'
+heads_are moment number number' heading heading' is same = ap (λ n. head_of (n + 1) moment heading) is ∙ ap (head_of (number' + 1) moment) same
 
 -- whether a limit is reached, and what is answered where none is
 abbrev cut_by : World → Reply
@@ -75,11 +76,11 @@ opened_by_it w full many r is also =
     ∙ ap (λ t. cond (length w.controlling.files == w.made.limits.files) (reply.Full (length w.controlling.files)) (cond t (reply.Full w.counts.opened) r)) (sym also)
 
 cut_files : (w : World) (pass moment : ℕ) → control_of (after_reply w (pass, Cut moment) (reply.File (w.counts.filed + 1)))
-    ≡ with_file (control_of w) (record { number = w.counts.filed + 1; moment = moment; origin = w.made.origin }) (map row_in w.delivering.unfiled)
+    ≡ with_file (control_of w) (file_head w.made.heading (w.counts.filed + 1) moment) (map row_in w.delivering.unfiled)
 unfolding after_reply
-cut_files w pass moment = ap (λ fs. record (control_of w) { files = fs; filed = w.counts.filed + 1 }) (map-append (file_in w.made.origin) w.controlling.files _)
+cut_files w pass moment = ap (λ fs. record (control_of w) { files = fs; filed = w.counts.filed + 1 }) (map-append (file_in w.made.heading) w.controlling.files _)
 
-module _ (made : Made) (h : History) (edge : EdgeView) (control : ControlView) (origin : List ℕ) (opened : ℕ) (s : Follows (state edge control origin opened) made h) where
+module _ (made : Made) (h : History) (edge : EdgeView) (control : ControlView) (heading : Heading) (opened : ℕ) (s : Follows (state edge control heading opened) made h) where
   abbrev w : World
   w = world_of made h
 
@@ -90,7 +91,7 @@ module _ (made : Made) (h : History) (edge : EdgeView) (control : ControlView) (
   many_rows = ap length rows_are ∙ length-map w.delivering.unfiled row_in
 
   many_files : length control.files ≡ length w.controlling.files
-  many_files = ap (λ (v : ControlView). length v.files) s.control ∙ length-map w.controlling.files (file_in w.made.origin)
+  many_files = ap (λ (v : ControlView). length v.files) s.control ∙ length-map w.controlling.files (file_in w.made.heading)
 
   full_is : (t : Bool) → (length control.files == edge.limits.files) ≡ t → (length w.controlling.files == w.made.limits.files) ≡ t
   full_is t is = sym (ap (λ n. n == edge.limits.files) many_files ∙ ap (λ (v : EdgeView). length w.controlling.files == v.limits.files) s.edge) ∙ is
@@ -113,53 +114,53 @@ module _ (made : Made) (h : History) (edge : EdgeView) (control : ControlView) (
     nothing_replied none = ap (replies.cut_reply w) (sym (none_of w.delivering.unfiled (sym many_rows ∙ none)))
 
     -- nothing is unfiled
-    pub nothing_told : length edge.unfiled ≡ 0 → Says made h cut reply.NothingToCut (state edge control origin opened)
+    pub nothing_told : length edge.unfiled ≡ 0 → Says made h cut reply.NothingToCut (state edge control heading opened)
     nothing_told none =
         let replied = nothing_replied none in
-        told made h cut reply.NothingToCut edge control origin opened replied
+        told made h cut reply.NothingToCut edge control heading opened replied
         (s.edge ∙ sym (left_by w cut reply.NothingToCut (sym replied) ∙ squares.uncut_leaves w pass moment))
-        (s.control ∙ control_kept w cut reply.NothingToCut replied refl refl refl refl) s.origin
+        (s.control ∙ control_kept w cut reply.NothingToCut replied refl refl refl refl) s.heading
         (s.opened ∙ same_opened w.counts.opened ∙ after_opens w cut reply.NothingToCut replied)
 
-    full_told_by : (count : ℕ) → reply.Full count ≡ reply_in w cut → Says made h cut (reply.Full count) (state edge control origin opened)
+    full_told_by : (count : ℕ) → reply.Full count ≡ reply_in w cut → Says made h cut (reply.Full count) (state edge control heading opened)
     full_told_by count replied =
-        told made h cut (reply.Full count) edge control origin opened replied
+        told made h cut (reply.Full count) edge control heading opened replied
         (s.edge ∙ sym (left_by w cut (reply.Full count) (sym replied) ∙ squares.full_cut_leaves w pass moment count))
-        (s.control ∙ control_kept w cut (reply.Full count) replied refl refl refl refl) s.origin
+        (s.control ∙ control_kept w cut (reply.Full count) replied refl refl refl refl) s.heading
         (s.opened ∙ same_opened w.counts.opened ∙ after_opens w cut (reply.Full count) replied)
 
     -- as many files are kept as may be
-    pub full_told : 0 < length edge.unfiled → (length control.files == edge.limits.files) ≡ true → Says made h cut (reply.Full (length control.files)) (state edge control origin opened)
+    pub full_told : 0 < length edge.unfiled → (length control.files == edge.limits.files) ≡ true → Says made h cut (reply.Full (length control.files)) (state edge control heading opened)
     full_told some is = full_told_by (length control.files) (ap (λ n. reply.Full n) many_files ∙ replied_by some true (opened == edge.limits.opened) is refl)
 
     -- as many answers opened something as may
-    pub spent_told : 0 < length edge.unfiled → (length control.files == edge.limits.files) ≡ false → (opened == edge.limits.opened) ≡ true → Says made h cut (reply.Full opened) (state edge control origin opened)
+    pub spent_told : 0 < length edge.unfiled → (length control.files == edge.limits.files) ≡ false → (opened == edge.limits.opened) ≡ true → Says made h cut (reply.Full opened) (state edge control heading opened)
     spent_told some is also = full_told_by opened (ap (λ n. reply.Full n) s.opened ∙ replied_by some false true is also)
 
     -- the rows are filed
     pub file_told : (edge' : EdgeView) (control' : ControlView) (number : ℕ) → 0 < length edge.unfiled → (length control.files == edge.limits.files) ≡ false → (opened == edge.limits.opened) ≡ false
-        → number ≡ control.filed + 1 → edge' ≡ record edge { unfiled = [] } → control' ≡ with_file control (record { number = control.filed + 1; moment = moment; origin = origin }) edge.unfiled
-        → Says made h cut (reply.File number) (state edge' control' origin (opened + 1))
+        → number ≡ control.filed + 1 → edge' ≡ record edge { unfiled = [] } → control' ≡ with_file control (file_head heading (control.filed + 1) moment) edge.unfiled
+        → Says made h cut (reply.File number) (state edge' control' heading (opened + 1))
     file_told edge' control' number some is also numbered left kept =
         let filed : control.filed + 1 ≡ w.counts.filed + 1 = ap (λ (v : ControlView). v.filed + 1) s.control in
         let replied : reply.File number ≡ reply_in w cut = ap (λ n. reply.File n) (numbered ∙ filed) ∙ replied_by some false false is also in
         let new : reply.File (w.counts.filed + 1) ≡ reply_in w cut = replied_by some false false is also in
-        told made h cut (reply.File number) edge' control' origin (opened + 1) replied
+        told made h cut (reply.File number) edge' control' heading (opened + 1) replied
         (left ∙ ap (λ (v : EdgeView). record v { unfiled = [] }) s.edge ∙ sym (left_by w cut (reply.File number) (sym replied) ∙ squares.cut_leaves w pass moment number))
-        (kept ∙ ap (λ (v : ControlView). with_file v (record { number = v.filed + 1; moment = moment; origin = origin }) edge.unfiled) s.control
-        ∙ ap (λ o. with_file (control_of w) (record { number = w.counts.filed + 1; moment = moment; origin = o }) edge.unfiled) s.origin
-        ∙ ap (with_file (control_of w) (record { number = w.counts.filed + 1; moment = moment; origin = w.made.origin })) rows_are
+        (kept ∙ ap (λ (v : ControlView). with_file v (file_head heading (v.filed + 1) moment) edge.unfiled) s.control
+        ∙ ap (λ o. with_file (control_of w) (file_head o (w.counts.filed + 1) moment) edge.unfiled) s.heading
+        ∙ ap (with_file (control_of w) (file_head w.made.heading (w.counts.filed + 1) moment)) rows_are
         ∙ sym (control_by w cut (reply.File (w.counts.filed + 1)) new ∙ cut_files w pass moment))
-        s.origin
+        s.heading
         (ap (λ n. n + 1) s.opened ∙ after_opens w cut (reply.File number) replied)
 
   -- ---- reading, listing and dropping
 
   module _ (pass number : ℕ) where
-    found_files : find (has_number number) control.files ≡ option_map (file_in w.made.origin) (replies.file_of number w.controlling.files)
-    found_files = ap (λ (v : ControlView). find (has_number number) v.files) s.control ∙ find-map (file_in w.made.origin) (has_number number) w.controlling.files
+    found_files : find (has_number number) control.files ≡ option_map (file_in w.made.heading) (replies.file_of number w.controlling.files)
+    found_files = ap (λ (v : ControlView). find (has_number number) v.files) s.control ∙ find-map (file_in w.made.heading) (has_number number) w.controlling.files
 
-    log_by : (found : Option Filed) → logged number (option_map (λ (file : LogFile). file.text) (option_map (file_in w.made.origin) found)) ≡ replies.log_reply w.made.origin number found
+    log_by : (found : Option Filed) → logged number (option_map (λ (file : LogFile). file.text) (option_map (file_in w.made.heading) found)) ≡ replies.log_reply w.made.heading number found
     log_by None = refl
     log_by (Some filed) = refl
 
@@ -167,28 +168,28 @@ module _ (made : Made) (h : History) (edge : EdgeView) (control : ControlView) (
     unfolding reply_in
     log_replied = ap (λ found. logged number (option_map (λ (file : LogFile). file.text) found)) found_files ∙ log_by (replies.file_of number w.controlling.files)
 
-    log_told_by : (text : Option (List ℕ)) → logged number text ≡ reply_in w (pass, ReadLog number) → Says made h (pass, ReadLog number) (logged number text) (state edge control origin opened)
+    log_told_by : (text : Option (List ℕ)) → logged number text ≡ reply_in w (pass, ReadLog number) → Says made h (pass, ReadLog number) (logged number text) (state edge control heading opened)
     log_told_by None replied =
-        told made h (pass, ReadLog number) (reply.Unknown number) edge control origin opened replied
+        told made h (pass, ReadLog number) (reply.Unknown number) edge control heading opened replied
         (s.edge ∙ sym (left_by w (pass, ReadLog number) (reply.Unknown number) (sym replied) ∙ squares.no_log_leaves w pass number))
-        (s.control ∙ control_kept w (pass, ReadLog number) (reply.Unknown number) replied refl refl refl refl) s.origin
+        (s.control ∙ control_kept w (pass, ReadLog number) (reply.Unknown number) replied refl refl refl refl) s.heading
         (s.opened ∙ same_opened w.counts.opened ∙ after_opens w (pass, ReadLog number) (reply.Unknown number) replied)
     log_told_by (Some text) replied =
-        told made h (pass, ReadLog number) (reply.LogText text) edge control origin opened replied
+        told made h (pass, ReadLog number) (reply.LogText text) edge control heading opened replied
         (s.edge ∙ sym (left_by w (pass, ReadLog number) (reply.LogText text) (sym replied) ∙ squares.log_leaves w pass number text))
-        (s.control ∙ control_kept w (pass, ReadLog number) (reply.LogText text) replied refl refl refl refl) s.origin
+        (s.control ∙ control_kept w (pass, ReadLog number) (reply.LogText text) replied refl refl refl refl) s.heading
         (s.opened ∙ same_opened w.counts.opened ∙ after_opens w (pass, ReadLog number) (reply.LogText text) replied)
 
-    pub log_told : Says made h (pass, ReadLog number) (logged number (text_at number control.files)) (state edge control origin opened)
+    pub log_told : Says made h (pass, ReadLog number) (logged number (text_at number control.files)) (state edge control heading opened)
     log_told = log_told_by (text_at number control.files) log_replied
 
     -- the text of the file, where there is memory for it
-    pub log_ok : (found : Option (List ℕ)) (r : Result Reply AllocError) → found ≡ text_at number control.files → IfOk r (λ a. a ≡ logged number found) → IfOk r (λ a. Says made h (pass, ReadLog number) a (state edge control origin opened))
-    log_ok found (Ok a) is answer = subst (λ b. Says made h (pass, ReadLog number) b (state edge control origin opened)) (sym (answer ∙ ap (logged number) is)) log_told
+    pub log_ok : (found : Option (List ℕ)) (r : Result Reply AllocError) → found ≡ text_at number control.files → IfOk r (λ a. a ≡ logged number found) → IfOk r (λ a. Says made h (pass, ReadLog number) a (state edge control heading opened))
+    log_ok found (Ok a) is answer = subst (λ b. Says made h (pass, ReadLog number) b (state edge control heading opened)) (sym (answer ∙ ap (logged number) is)) log_told
     log_ok found (Err e) is answer = tt
 
     any_is : list_any (has_number number) control.files ≡ is_some (replies.file_of number w.controlling.files)
-    any_is = any_found (has_number number) control.files ∙ ap is_some found_files ∙ some_map (file_in w.made.origin) (replies.file_of number w.controlling.files)
+    any_is = any_found (has_number number) control.files ∙ ap is_some found_files ∙ some_map (file_in w.made.heading) (replies.file_of number w.controlling.files)
 
     drop_by : (found : Option Filed) → dropped_log number (is_some found) ≡ replies.drop_reply number found
     drop_by None = refl
@@ -198,33 +199,33 @@ module _ (made : Made) (h : History) (edge : EdgeView) (control : ControlView) (
     unfolding reply_in
     drop_replied dropped is = ap (dropped_log number) (is ∙ any_is) ∙ drop_by (replies.file_of number w.controlling.files)
 
-    kept_files : filter (λ file. not (has_number number file)) control.files ≡ map (file_in w.made.origin) (filter (λ (file : Filed). not (file.number == number)) w.controlling.files)
-    kept_files = ap (λ (v : ControlView). filter (λ file. not (has_number number file)) v.files) s.control ∙ filter-map (file_in w.made.origin) (λ file. not (has_number number file)) w.controlling.files
+    kept_files : filter (λ file. not (has_number number file)) control.files ≡ map (file_in w.made.heading) (filter (λ (file : Filed). not (file.number == number)) w.controlling.files)
+    kept_files = ap (λ (v : ControlView). filter (λ file. not (has_number number file)) v.files) s.control ∙ filter-map (file_in w.made.heading) (λ file. not (has_number number file)) w.controlling.files
 
     dropped_files : (dropped : Bool) → record control { files = filter (λ file. not (has_number number file)) control.files } ≡ control_of (after_reply w (pass, DropLog number) (dropped_log number dropped))
     unfolding after_reply
-    dropped_files true = ap (λ fs. record control { files = fs }) kept_files ∙ ap (λ (v : ControlView). record v { files = map (file_in w.made.origin) (filter (λ (file : Filed). not (file.number == number)) w.controlling.files) }) s.control
-    dropped_files false = ap (λ fs. record control { files = fs }) kept_files ∙ ap (λ (v : ControlView). record v { files = map (file_in w.made.origin) (filter (λ (file : Filed). not (file.number == number)) w.controlling.files) }) s.control
+    dropped_files true = ap (λ fs. record control { files = fs }) kept_files ∙ ap (λ (v : ControlView). record v { files = map (file_in w.made.heading) (filter (λ (file : Filed). not (file.number == number)) w.controlling.files) }) s.control
+    dropped_files false = ap (λ fs. record control { files = fs }) kept_files ∙ ap (λ (v : ControlView). record v { files = map (file_in w.made.heading) (filter (λ (file : Filed). not (file.number == number)) w.controlling.files) }) s.control
 
     drop_told_by : (control' : ControlView) (dropped : Bool) → dropped_log number dropped ≡ reply_in w (pass, DropLog number)
-        → control' ≡ control_of (after_reply w (pass, DropLog number) (dropped_log number dropped)) → Says made h (pass, DropLog number) (dropped_log number dropped) (state edge control' origin opened)
+        → control' ≡ control_of (after_reply w (pass, DropLog number) (dropped_log number dropped)) → Says made h (pass, DropLog number) (dropped_log number dropped) (state edge control' heading opened)
     drop_told_by control' true replied kept =
-        told made h (pass, DropLog number) reply.Dropped edge control' origin opened replied
+        told made h (pass, DropLog number) reply.Dropped edge control' heading opened replied
         (s.edge ∙ sym (left_by w (pass, DropLog number) reply.Dropped (sym replied) ∙ squares.dropped_leaves w pass number))
-        (kept ∙ sym (control_by w (pass, DropLog number) reply.Dropped replied)) s.origin
+        (kept ∙ sym (control_by w (pass, DropLog number) reply.Dropped replied)) s.heading
         (s.opened ∙ same_opened w.counts.opened ∙ after_opens w (pass, DropLog number) reply.Dropped replied)
     drop_told_by control' false replied kept =
-        told made h (pass, DropLog number) (reply.Unknown number) edge control' origin opened replied
+        told made h (pass, DropLog number) (reply.Unknown number) edge control' heading opened replied
         (s.edge ∙ sym (left_by w (pass, DropLog number) (reply.Unknown number) (sym replied) ∙ squares.undropped_leaves w pass number))
-        (kept ∙ sym (control_by w (pass, DropLog number) (reply.Unknown number) replied)) s.origin
+        (kept ∙ sym (control_by w (pass, DropLog number) (reply.Unknown number) replied)) s.heading
         (s.opened ∙ same_opened w.counts.opened ∙ after_opens w (pass, DropLog number) (reply.Unknown number) replied)
 
     pub drop_told : (control' : ControlView) (dropped : Bool) → dropped ≡ list_any (has_number number) control.files → control' ≡ record control { files = filter (λ file. not (has_number number file)) control.files }
-        → Says made h (pass, DropLog number) (dropped_log number dropped) (state edge control' origin opened)
+        → Says made h (pass, DropLog number) (dropped_log number dropped) (state edge control' heading opened)
     drop_told control' dropped is kept = drop_told_by control' dropped (drop_replied dropped is) (kept ∙ dropped_files dropped)
 
   module _ (pass : ℕ) where
-    numbers_are : (files : List Filed) → map (λ (file : LogFile). file.number) (map (file_in w.made.origin) files) ≡ map (λ (file : Filed). file.number) files
+    numbers_are : (files : List Filed) → map (λ (file : LogFile). file.number) (map (file_in w.made.heading) files) ≡ map (λ (file : Filed). file.number) files
     numbers_are [] = refl
     numbers_are (file ∷ files) = ap (λ ns. file.number ∷ ns) (numbers_are files)
 
@@ -232,12 +233,12 @@ module _ (made : Made) (h : History) (edge : EdgeView) (control : ControlView) (
     unfolding reply_in
     list_replied = ap (λ (v : ControlView). reply.Numbers (map (λ (file : LogFile). file.number) v.files)) s.control ∙ ap (λ ns. reply.Numbers ns) (numbers_are w.controlling.files)
 
-    pub list_told : (numbers : List ℕ) → numbers ≡ map (λ (file : LogFile). file.number) control.files → Says made h (pass, ListLogs) (reply.Numbers numbers) (state edge control origin opened)
+    pub list_told : (numbers : List ℕ) → numbers ≡ map (λ (file : LogFile). file.number) control.files → Says made h (pass, ListLogs) (reply.Numbers numbers) (state edge control heading opened)
     list_told numbers are =
         let replied : reply.Numbers numbers ≡ reply_in w (pass, ListLogs) = ap (λ ns. reply.Numbers ns) are ∙ list_replied in
-        told made h (pass, ListLogs) (reply.Numbers numbers) edge control origin opened replied
+        told made h (pass, ListLogs) (reply.Numbers numbers) edge control heading opened replied
         (s.edge ∙ sym (left_by w (pass, ListLogs) (reply.Numbers numbers) (sym replied) ∙ squares.list_leaves w pass numbers))
-        (s.control ∙ control_kept w (pass, ListLogs) (reply.Numbers numbers) replied refl refl refl refl) s.origin
+        (s.control ∙ control_kept w (pass, ListLogs) (reply.Numbers numbers) replied refl refl refl refl) s.heading
         (s.opened ∙ same_opened w.counts.opened ∙ after_opens w (pass, ListLogs) (reply.Numbers numbers) replied)
 
 -- ---- soundness

@@ -86,7 +86,7 @@ module _ (w : World) (e : Entry) where
 -- a Cut may leave none of the unfiled rows, and another entry leaves all
 unfiled_left : (w : World) (e : Entry) → Leaves w e (reply_in w e)
 unfiled_left w (pass, Cut moment) = cut_cases w pass (Leaves w (pass, Cut moment)) moment (inr refl) (λ n. inr refl) (inl refl)
-unfiled_left w (pass, Admit asked place moment) = inr refl
+unfiled_left w (pass, Admit request moment) = inr refl
 unfiled_left w (pass, FetchEnd fetch outcome moment) = inr refl
 unfiled_left w (pass, Finish delivery status total entity moment) = inr refl
 unfiled_left w (pass, RefreshBegin moment) = inr refl

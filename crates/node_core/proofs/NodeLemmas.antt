@@ -32,7 +32,7 @@ pub unstripped : (event : Event) → is_end event ≡ false → event ≡ stripp
 unstripped (FetchEnd fetch outcome moment) is = absurd (cc)
 unstripped (RefreshEnd refresh tree moment) is = absurd (cc)
 unstripped (Finish delivery status total entity moment) is = refl
-unstripped (Admit asked place moment) is = refl
+unstripped (Admit request moment) is = refl
 unstripped (RefreshBegin moment) is = refl
 unstripped (Command spec moment) is = refl
 unstripped (Advance id moment) is = refl
@@ -65,9 +65,9 @@ pub none_open : (v : StateView) (made : Made) → Follows v made [] → open_cou
 unfolding world_of
 none_open v made s = rw s.edge (omega arith)
 
-pub origin_at_start : (v : StateView) (made : Made) → Follows v made [] → v.origin ≡ made.origin
+pub heading_at_start : (v : StateView) (made : Made) → Follows v made [] → v.heading ≡ made.heading
 unfolding world_of
-origin_at_start v made s = s.origin
+heading_at_start v made s = s.heading
 
 -- ---- places
 
@@ -112,11 +112,11 @@ node_of made state held retired stored = record { made = made; state = state; he
 
 -- where it was not open, nothing has changed
 pub same_left : (old new : StateView) (held held' : List Kept) (there : Bool) (r : Reply) (limits : Bounds) (retired retired' : ℕ) (stored stored' : List Entered) → Ends old new there r → (there ≡ false → held' ≡ held) → is_not_open r ≡ true → retired' ≡ retired → stored' ≡ stored
-    → node_of (record { limits = limits; origin = new.origin }) new held' retired' stored' ≡ node_of (record { limits = limits; origin = old.origin }) old held retired stored
+    → node_of (record { limits = limits; heading = new.heading }) new held' retired' stored' ≡ node_of (record { limits = limits; heading = old.heading }) old held retired stored
 same_left old new held held' there r limits retired retired' stored stored' ends closed so count same =
     let none = not_there there (is_not_open r) ends.found so in
-    ap (λ (v : StateView). node_of (record { limits = limits; origin = v.origin }) v held' retired' stored') (ends.closed none)
-    ∙ (λ i. node_of (record { limits = limits; origin = old.origin }) old (closed none i) (count i) (same i))
+    ap (λ (v : StateView). node_of (record { limits = limits; heading = v.heading }) v held' retired' stored') (ends.closed none)
+    ∙ (λ i. node_of (record { limits = limits; heading = old.heading }) old (closed none i) (count i) (same i))
 
 -- ---- what is open
 
@@ -141,7 +141,7 @@ module _ (deliveries : OpenLaw (λ d. d.deliveries) begun_delivery ends_delivery
       ap (λ (e : EdgeView). list_any (is_named refresh pass) e.refreshes) s.state.edge ∙ any_open (refreshing (world_of made h).delivering.starts) (λ one. (refl, refl)) refresh pass (world_of made h).delivering.refreshes ∙ (refreshes made h refresh pass).1 begun
   ends_open_by (Finish delivery status total entity moment) begun =
       ap (λ (e : EdgeView). list_any (is_named delivery pass) e.deliveries) s.state.edge ∙ any_open unplaced (λ one. (refl, refl)) delivery pass (world_of made h).delivering.deliveries ∙ (deliveries made h delivery pass).1 begun
-  ends_open_by (Admit asked place moment) begun = absurd begun
+  ends_open_by (Admit request moment) begun = absurd begun
   ends_open_by (RefreshBegin moment) begun = absurd begun
   ends_open_by (Command spec moment) begun = absurd begun
   ends_open_by (Advance id moment) begun = absurd begun
@@ -159,7 +159,7 @@ pub ends_nothing : (made : Made) (h : History) (pass : ℕ) (event : Event) → 
 ends_nothing made h pass (FetchEnd fetch outcome moment) is begun = absurd (cc)
 ends_nothing made h pass (RefreshEnd refresh tree moment) is begun = absurd (cc)
 ends_nothing made h pass (Finish delivery status total entity moment) is begun = absurd (cc)
-ends_nothing made h pass (Admit asked place moment) is begun = begun
+ends_nothing made h pass (Admit request moment) is begun = begun
 ends_nothing made h pass (RefreshBegin moment) is begun = begun
 ends_nothing made h pass (Command spec moment) is begun = begun
 ends_nothing made h pass (Advance id moment) is begun = begun
@@ -183,7 +183,7 @@ pub ends_no_purge : (triggers : List Trigger) (event : Event) (r : Reply) → is
 ends_no_purge triggers (FetchEnd fetch outcome moment) r is so = absurd (cc)
 ends_no_purge triggers (RefreshEnd refresh tree moment) r is so = absurd (cc)
 ends_no_purge triggers (Finish delivery status total entity moment) r is so = absurd (cc)
-ends_no_purge triggers (Admit asked place moment) r is so = absurd (cc)
+ends_no_purge triggers (Admit request moment) r is so = absurd (cc)
 ends_no_purge triggers (RefreshBegin moment) r is so = absurd (cc)
 ends_no_purge triggers (Command spec moment) r is so = absurd (cc)
 ends_no_purge triggers (Advance id moment) r is so = absurd (cc)

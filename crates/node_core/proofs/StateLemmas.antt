@@ -3,7 +3,6 @@ use Rattle.std.proofs.Common.{◌≡◌, ℕ, ◌+◌, ◌==◌, Bool, true, fal
 use Rattle.std.specs.List.{find}
 use Rattle.std.proofs.lemmas.Bool.{eqb-false}
 use Rattle.cdni_base.specs.Limits.{AreInRange, Bounds}
-use Rattle.cdni_base.specs.declared.asked.Asked.{Asked}
 use Rattle.control_core.specs.Control.{ControlView, with_triggers}
 use Rattle.control_core.specs.Control.{empty as no_files}
 use Rattle.delivery_core.proofs.Growth.{admit_grows}
@@ -25,32 +24,32 @@ use Rattle.delivery_core.specs.declared.results.RefreshEnded.{RefreshEnded}
 use Rattle.delivery_core.specs.declared.results.RefreshEnded.TheVariants as ended_as
 use Rattle.history.proofs.Words.{world_push}
 use Rattle.history.specs.After.{after, after_reply, created_trigger, cut_file, ended_fetch, ended_refresh, files_after, is_fetched, opened_by, row_of, triggers_after}
-use Rattle.history.specs.Event.{Entry, History, Admit, FetchEnd, Finish, RefreshBegin, RefreshEnd}
+use Rattle.history.specs.Event.{Entry, History, Admit, FetchEnd, Finish, RefreshBegin, RefreshEnd, Request}
 use Rattle.history.specs.History.{reply_to, world_of}
 use Rattle.history.specs.Reply.{reply_in}
 use Rattle.history.specs.World.{Filed, Made, Trigger, World}
 use Rattle.history.specs.declared.reply.Reply.{Reply}
 use Rattle.history.specs.declared.reply.Reply.TheVariants as reply
+use Rattle.history.specs.declared.heading.Heading.{Heading}
 use Rattle.node_core.specs.Logs.{control_of, file_in}
 use Rattle.node_core.specs.State.{StateView, IsLeft, IsSound, Follows, Says}
 use Rattle.node_core.specs.Triggering.{fetch_told, refresh_told}
-use Rattle.location_acl.specs.declared.footprint.Place.{Place}
 use Rattle.metadata_objects.specs.Tree.{TreeData}
 use Rattle.upstream_gate.specs.declared.outcome.Outcome.{Outcome}
 
-abbrev pub state : EdgeView → ControlView → List ℕ → ℕ → StateView
-state edge control origin opened = record { edge = edge; control = control; origin = origin; opened = opened }
+abbrev pub state : EdgeView → ControlView → Heading → ℕ → StateView
+state edge control heading opened = record { edge = edge; control = control; heading = heading; opened = opened }
 
 -- the log files claim the same host, whatever comes
-same_origin : (w : World) (e : Entry) → (after w e).made.origin ≡ w.made.origin
+same_origin : (w : World) (e : Entry) → (after w e).made.heading ≡ w.made.heading
 unfolding after after_reply
 same_origin w e = refl
 
-module _ (made : Made) (h : History) (e : Entry) (r : Reply) (edge : EdgeView) (control : ControlView) (origin : List ℕ) (opened : ℕ) where
-  pub told : r ≡ reply_to made h e → edge ≡ edge_of (after (world_of made h) e) → control ≡ control_of (after (world_of made h) e) → origin ≡ (world_of made h).made.origin
-      → opened ≡ (after (world_of made h) e).counts.opened → Says made h e r (state edge control origin opened)
+module _ (made : Made) (h : History) (e : Entry) (r : Reply) (edge : EdgeView) (control : ControlView) (heading : Heading) (opened : ℕ) where
+  pub told : r ≡ reply_to made h e → edge ≡ edge_of (after (world_of made h) e) → control ≡ control_of (after (world_of made h) e) → heading ≡ (world_of made h).made.heading
+      → opened ≡ (after (world_of made h) e).counts.opened → Says made h e r (state edge control heading opened)
   told is left kept host many =
-      (is, subst (λ w. IsLeft (state edge control origin opened) w) (sym (world_push made h e)) (record { edge = left; control = kept; origin = host ∙ sym (same_origin (world_of made h) e); opened = many }))
+      (is, subst (λ w. IsLeft (state edge control heading opened) w) (sym (world_push made h e)) (record { edge = left; control = kept; heading = host ∙ sym (same_origin (world_of made h) e); opened = many }))
 
 -- ---- log files that a call leaves alone
 
@@ -66,7 +65,7 @@ unfolding after_reply
 control_same w e r files none triggers uncreated =
     ap (λ (x : (List Filed × Option ℕ) × (List Trigger × Option ℕ)). record {
       triggers = record { triggers = x.1.0; most = w.made.limits.triggers; created = unwrap_or x.1.1 w.counts.created };
-      files = map (file_in w.made.origin) x.0.0;
+      files = map (file_in w.made.heading) x.0.0;
       most = w.made.limits.files;
       filed = unwrap_or x.0.1 w.counts.filed;
     }) (pair_is (pair_is files none) (pair_is triggers uncreated))
@@ -125,7 +124,7 @@ unfolding after_reply
 control_moves w e r triggers files none is uncreated =
     ap (λ (x : (List Filed × Option ℕ) × (List Trigger × Option ℕ)). record {
       triggers = record { triggers = x.1.0; most = w.made.limits.triggers; created = unwrap_or x.1.1 w.counts.created };
-      files = map (file_in w.made.origin) x.0.0;
+      files = map (file_in w.made.heading) x.0.0;
       most = w.made.limits.files;
       filed = unwrap_or x.0.1 w.counts.filed;
     }) (pair_is (pair_is files none) (pair_is is uncreated))
@@ -171,56 +170,56 @@ left_by w e r is = ap (λ x. edge_of (after_reply w e x)) is
 pub same_opened : (n : ℕ) → n ≡ n + 0
 same_opened n = omega arith
 
-pub stands_at_start : (made : Made) (v : EdgeView) (control : ControlView) → v ≡ empty made.limits → control ≡ no_files made.limits → Follows (state v control made.origin 0) made []
+pub stands_at_start : (made : Made) (v : EdgeView) (control : ControlView) → v ≡ empty made.limits → control ≡ no_files made.limits → Follows (state v control made.heading 0) made []
 unfolding world_of
-stands_at_start made v control is none = record { edge = is; control = none; origin = refl; opened = refl }
+stands_at_start made v control is none = record { edge = is; control = none; heading = refl; opened = refl }
 
-module _ (made : Made) (h : History) (edge edge' : EdgeView) (control control' : ControlView) (origin : List ℕ) (opened : ℕ) (s : Follows (state edge control origin opened) made h) where
+module _ (made : Made) (h : History) (edge edge' : EdgeView) (control control' : ControlView) (heading : Heading) (opened : ℕ) (s : Follows (state edge control heading opened) made h) where
   pub fetch_end_told : (pass fetch : ℕ) (outcome : Outcome) (moment : ℕ) (ended : Option Bool) (r : Reply) → ended ≡ fetch_end_reply edge outcome (find (is_named fetch pass) edge.fetches)
       → edge' ≡ fetch_end_after edge pass fetch outcome (find (is_named fetch pass) edge.fetches) → r ≡ fetch_ended fetch ended
-      → control' ≡ fetch_told control fetch ended (is_fetched outcome) → Says made h (pass, FetchEnd fetch outcome moment) r (state edge' control' origin opened)
+      → control' ≡ fetch_told control fetch ended (is_fetched outcome) → Says made h (pass, FetchEnd fetch outcome moment) r (state edge' control' heading opened)
   fetch_end_told pass fetch outcome moment ended r is left answer moved =
       let w : World = world_of made h in
       let replied : r ≡ reply_in w (pass, FetchEnd fetch outcome moment) = answer ∙ ap (fetch_ended fetch) is ∙ ap (λ (v : EdgeView). fetch_ended fetch (fetch_end_reply v outcome (find (is_named fetch pass) v.fetches))) s.edge ∙ squares.fetch_end_replies w pass fetch outcome moment in
-      told made h (pass, FetchEnd fetch outcome moment) r edge' control' origin opened replied
+      told made h (pass, FetchEnd fetch outcome moment) r edge' control' heading opened replied
       (left ∙ ap (λ (v : EdgeView). fetch_end_after v pass fetch outcome (find (is_named fetch pass) v.fetches)) s.edge ∙ sym (squares.fetch_end_leaves w pass fetch outcome moment))
-      (fetch_moved w control control' s.control pass fetch outcome moment ended r answer replied moved) s.origin
+      (fetch_moved w control control' s.control pass fetch outcome moment ended r answer replied moved) s.heading
       (s.opened ∙ sym (squares.fetch_end_opens w pass fetch outcome moment))
 
   pub refresh_end_told : (pass refresh : ℕ) (tree : Option TreeData) (moment : ℕ) (ended : RefreshEnded) (r : Reply) → ended ≡ refresh_end_reply edge refresh tree (find (is_named refresh pass) edge.refreshes)
       → edge' ≡ refresh_end_after edge pass refresh tree (find (is_named refresh pass) edge.refreshes) → r ≡ refresh_ended refresh ended
-      → control' ≡ refresh_told control refresh ended → Says made h (pass, RefreshEnd refresh tree moment) r (state edge' control' origin opened)
+      → control' ≡ refresh_told control refresh ended → Says made h (pass, RefreshEnd refresh tree moment) r (state edge' control' heading opened)
   refresh_end_told pass refresh tree moment ended r is left answer moved =
       let w : World = world_of made h in
       let replied : r ≡ reply_in w (pass, RefreshEnd refresh tree moment) = answer ∙ ap (refresh_ended refresh) is ∙ ap (λ (v : EdgeView). refresh_ended refresh (refresh_end_reply v refresh tree (find (is_named refresh pass) v.refreshes))) s.edge
       ∙ squares.refresh_end_replies w pass refresh tree moment in
-      told made h (pass, RefreshEnd refresh tree moment) r edge' control' origin opened replied
+      told made h (pass, RefreshEnd refresh tree moment) r edge' control' heading opened replied
       (left ∙ ap (λ (v : EdgeView). refresh_end_after v pass refresh tree (find (is_named refresh pass) v.refreshes)) s.edge ∙ sym (squares.refresh_end_leaves w pass refresh tree moment))
-      (refresh_moved w control control' s.control pass refresh tree moment r replied ended answer moved) s.origin
+      (refresh_moved w control control' s.control pass refresh tree moment r replied ended answer moved) s.heading
       (s.opened ∙ sym (squares.refresh_end_opens w pass refresh tree moment))
 
-module _ (made : Made) (h : History) (edge edge' : EdgeView) (control : ControlView) (origin : List ℕ) (opened : ℕ) (s : Follows (state edge control origin opened) made h) where
-  pub admit_told : (pass : ℕ) (asked : Asked) (place : Place) (moment many : ℕ) (a : Admitted) (r : Reply) → a ≡ admit_reply edge opened asked place moment → edge' ≡ admit_after edge pass opened asked place moment
-      → r ≡ reply_of a → many ≡ opened_by (reply_of a) → Says made h (pass, Admit asked place moment) r (state edge' control origin (opened + many))
-  admit_told pass asked place moment many a r is left answer counted =
+module _ (made : Made) (h : History) (edge edge' : EdgeView) (control : ControlView) (heading : Heading) (opened : ℕ) (s : Follows (state edge control heading opened) made h) where
+  pub admit_told : (pass : ℕ) (request : Request) (moment many : ℕ) (a : Admitted) (r : Reply) → a ≡ admit_reply edge opened request.asked request.place moment → edge' ≡ admit_after edge pass opened request moment
+      → r ≡ reply_of a → many ≡ opened_by (reply_of a) → Says made h (pass, Admit request moment) r (state edge' control heading (opened + many))
+  admit_told pass request moment many a r is left answer counted =
       let w : World = world_of made h in
-      let replied : r ≡ reply_in w (pass, Admit asked place moment) =
-      answer ∙ ap reply_of is ∙ ap (λ v. reply_of (admit_reply v opened asked place moment)) s.edge ∙ ap (λ n. reply_of (admit_reply (edge_of w) n asked place moment)) s.opened
-      ∙ squares.admit_replies w pass asked place moment in
-      told made h (pass, Admit asked place moment) r edge' control origin (opened + many) replied
-      (left ∙ ap (λ v. admit_after v pass opened asked place moment) s.edge ∙ ap (λ n. admit_after (edge_of w) pass n asked place moment) s.opened ∙ sym (squares.admit_leaves w pass asked place moment (placed made h)))
-      (s.control ∙ control_kept w (pass, Admit asked place moment) r replied refl (ap cut_file answer ∙ no_cut a) refl (ap created_trigger answer ∙ none_created a)) s.origin
-      (ap (λ n. n + many) s.opened ∙ ap (λ n. w.counts.opened + n) (counted ∙ sym (ap opened_by answer)) ∙ after_opens w (pass, Admit asked place moment) r replied)
+      let replied : r ≡ reply_in w (pass, Admit request moment) =
+      answer ∙ ap reply_of is ∙ ap (λ v. reply_of (admit_reply v opened request.asked request.place moment)) s.edge ∙ ap (λ n. reply_of (admit_reply (edge_of w) n request.asked request.place moment)) s.opened
+      ∙ squares.admit_replies w pass request moment in
+      told made h (pass, Admit request moment) r edge' control heading (opened + many) replied
+      (left ∙ ap (λ v. admit_after v pass opened request moment) s.edge ∙ ap (λ n. admit_after (edge_of w) pass n request moment) s.opened ∙ sym (squares.admit_leaves w pass request moment (placed made h)))
+      (s.control ∙ control_kept w (pass, Admit request moment) r replied refl (ap cut_file answer ∙ no_cut a) refl (ap created_trigger answer ∙ none_created a)) s.heading
+      (ap (λ n. n + many) s.opened ∙ ap (λ n. w.counts.opened + n) (counted ∙ sym (ap opened_by answer)) ∙ after_opens w (pass, Admit request moment) r replied)
 
   pub finish_told : (pass delivery status total entity moment : ℕ) (row : Option ℕ) (r : Reply) → row ≡ finish_reply edge (find (is_named delivery pass) edge.deliveries)
       → edge' ≡ finish_after edge pass delivery (row_of status total entity moment) (find (is_named delivery pass) edge.deliveries) → r ≡ finished delivery row
-      → Says made h (pass, Finish delivery status total entity moment) r (state edge' control origin opened)
+      → Says made h (pass, Finish delivery status total entity moment) r (state edge' control heading opened)
   finish_told pass delivery status total entity moment row r is left answer =
       let w : World = world_of made h in
       let replied : r ≡ reply_in w (pass, Finish delivery status total entity moment) = answer ∙ ap (finished delivery) is ∙ ap (λ (v : EdgeView). finished delivery (finish_reply v (find (is_named delivery pass) v.deliveries))) s.edge ∙ squares.finish_replies w pass delivery status total entity moment in
-      told made h (pass, Finish delivery status total entity moment) r edge' control origin opened replied
+      told made h (pass, Finish delivery status total entity moment) r edge' control heading opened replied
       (left ∙ ap (λ (v : EdgeView). finish_after v pass delivery (row_of status total entity moment) (find (is_named delivery pass) v.deliveries)) s.edge ∙ sym (squares.finish_leaves w pass delivery status total entity moment))
-      (s.control ∙ control_kept w (pass, Finish delivery status total entity moment) r replied refl (ap cut_file answer ∙ no_cut_finish delivery row) refl (ap created_trigger answer ∙ none_created_finish delivery row)) s.origin
+      (s.control ∙ control_kept w (pass, Finish delivery status total entity moment) r replied refl (ap cut_file answer ∙ no_cut_finish delivery row) refl (ap created_trigger answer ∙ none_created_finish delivery row)) s.heading
       (s.opened ∙ sym (squares.finish_opens w pass delivery status total entity moment))
 
   due_is : (moment : ℕ) (next : Option ℕ) → next ≡ next_due edge moment → next_due (edge_of (world_of made h)) moment ≡ next
@@ -229,33 +228,33 @@ module _ (made : Made) (h : History) (edge edge' : EdgeView) (control : ControlV
   full_is : (t : Bool) → (opened == edge.limits.opened) ≡ t → ((world_of made h).counts.opened == (world_of made h).made.limits.opened) ≡ t
   full_is t is = sym (ap (λ n. n == edge.limits.opened) s.opened ∙ ap (λ (v : EdgeView). (world_of made h).counts.opened == v.limits.opened) s.edge) ∙ is
 
-  pub not_due_told : (pass moment next : ℕ) → Some next ≡ next_due edge moment → Says made h (pass, RefreshBegin moment) (reply.NotDue next) (state edge control origin opened)
+  pub not_due_told : (pass moment next : ℕ) → Some next ≡ next_due edge moment → Says made h (pass, RefreshBegin moment) (reply.NotDue next) (state edge control heading opened)
   not_due_told pass moment next is =
       let w : World = world_of made h in
       let replied = squares.not_due_replies w pass moment next (due_is moment (Some next) is) in
-      told made h (pass, RefreshBegin moment) (reply.NotDue next) edge control origin opened (sym replied)
+      told made h (pass, RefreshBegin moment) (reply.NotDue next) edge control heading opened (sym replied)
       (s.edge ∙ sym (squares.not_due_leaves w pass moment next) ∙ sym (left_by w (pass, RefreshBegin moment) (reply.NotDue next) replied))
-      (s.control ∙ control_kept w (pass, RefreshBegin moment) (reply.NotDue next) (sym replied) refl refl refl refl) s.origin
+      (s.control ∙ control_kept w (pass, RefreshBegin moment) (reply.NotDue next) (sym replied) refl refl refl refl) s.heading
       (s.opened ∙ same_opened w.counts.opened ∙ after_opens w (pass, RefreshBegin moment) (reply.NotDue next) (sym replied))
 
-  pub full_told : (pass moment : ℕ) → None ≡ next_due edge moment → (opened == edge.limits.opened) ≡ true → Says made h (pass, RefreshBegin moment) (reply.Full opened) (state edge control origin opened)
+  pub full_told : (pass moment : ℕ) → None ≡ next_due edge moment → (opened == edge.limits.opened) ≡ true → Says made h (pass, RefreshBegin moment) (reply.Full opened) (state edge control heading opened)
   full_told pass moment is full =
       let w : World = world_of made h in
       let replied = squares.full_replies w pass moment (due_is moment None is) (full_is true full) in
-      told made h (pass, RefreshBegin moment) (reply.Full opened) edge control origin opened (ap (λ n. reply.Full n) s.opened ∙ sym replied)
+      told made h (pass, RefreshBegin moment) (reply.Full opened) edge control heading opened (ap (λ n. reply.Full n) s.opened ∙ sym replied)
       (s.edge ∙ sym (squares.full_leaves w pass moment w.counts.opened) ∙ sym (left_by w (pass, RefreshBegin moment) (reply.Full w.counts.opened) replied))
-      (s.control ∙ control_kept w (pass, RefreshBegin moment) (reply.Full w.counts.opened) (sym replied) refl refl refl refl) s.origin
+      (s.control ∙ control_kept w (pass, RefreshBegin moment) (reply.Full w.counts.opened) (sym replied) refl refl refl refl) s.heading
       (s.opened ∙ same_opened w.counts.opened ∙ after_opens w (pass, RefreshBegin moment) (reply.Full w.counts.opened) (sym replied))
 
   pub due_told : (pass moment refresh : ℕ) → None ≡ next_due edge moment → (opened == edge.limits.opened) ≡ false → refresh ≡ edge.refreshed + 1 → edge' ≡ begin_after edge pass moment (began.Due refresh)
-      → Says made h (pass, RefreshBegin moment) (reply.Due refresh) (state edge' control origin (opened + 1))
+      → Says made h (pass, RefreshBegin moment) (reply.Due refresh) (state edge' control heading (opened + 1))
   due_told pass moment refresh is full number left =
       let w : World = world_of made h in
       let numbered : refresh ≡ w.counts.refreshed + 1 = number ∙ ap (λ (v : EdgeView). v.refreshed + 1) s.edge in
       let replied = squares.due_replies w pass moment (due_is moment None is) (full_is false full) ∙ ap (λ n. reply.Due n) (sym numbered) in
-      told made h (pass, RefreshBegin moment) (reply.Due refresh) edge' control origin (opened + 1) (sym replied)
+      told made h (pass, RefreshBegin moment) (reply.Due refresh) edge' control heading (opened + 1) (sym replied)
       (left ∙ ap (λ v. begin_after v pass moment (began.Due refresh)) s.edge ∙ sym (squares.due_leaves w pass moment (placed made h) refresh) ∙ sym (left_by w (pass, RefreshBegin moment) (reply.Due refresh) replied))
-      (s.control ∙ control_kept w (pass, RefreshBegin moment) (reply.Due refresh) (sym replied) refl refl refl refl) s.origin
+      (s.control ∙ control_kept w (pass, RefreshBegin moment) (reply.Due refresh) (sym replied) refl refl refl refl) s.heading
       (ap (λ n. n + 1) s.opened ∙ after_opens w (pass, RefreshBegin moment) (reply.Due refresh) (sym replied))
 
 due_of : Began → ℕ
@@ -325,9 +324,9 @@ module _ (edge : EdgeView) (control : ControlView) (opened : ℕ) (s : IsSound e
   due_sound edge' pass moment refresh room is left =
       rw left (subst (λ n. IsSound (begin_after edge pass moment (began.Due n)) control (opened + 1)) (sym is) (sound_due pass moment room))
 
-  sound_admit : (pass : ℕ) (asked : Asked) (place : Place) (moment : ℕ) → IsSound (admit_after edge pass opened asked place moment) control (opened + opened_by (reply_of (admit_reply edge opened asked place moment)))
-  sound_admit pass asked place moment =
-      let g = admit_grows edge opened pass asked place moment in
+  sound_admit : (pass : ℕ) (request : Request) (moment : ℕ) → IsSound (admit_after edge pass opened request moment) control (opened + opened_by (reply_of (admit_reply edge opened request.asked request.place moment)))
+  sound_admit pass request moment =
+      let g = admit_grows edge opened pass request moment in
       record {
         begun = omega (arith, s.begun, g.delivered, g.refreshed, g.started);
         fetched = omega (arith, s.fetched, g.fetched);
@@ -337,7 +336,7 @@ module _ (edge : EdgeView) (control : ControlView) (opened : ℕ) (s : IsSound e
         most_triggers = s.most_triggers ∙ ap (λ (b : Bounds). b.triggers) (sym g.limits);
       }
 
-  pub admit_sound : (edge' : EdgeView) (pass : ℕ) (asked : Asked) (place : Place) (moment many : ℕ) (a : Admitted) → a ≡ admit_reply edge opened asked place moment
-      → edge' ≡ admit_after edge pass opened asked place moment → many ≡ opened_by (reply_of a) → IsSound edge' control (opened + many)
-  admit_sound edge' pass asked place moment many a is left counted =
-      rw left (subst (λ n. IsSound (admit_after edge pass opened asked place moment) control (opened + n)) (sym (counted ∙ ap (λ x. opened_by (reply_of x)) is)) (sound_admit pass asked place moment))
+  pub admit_sound : (edge' : EdgeView) (pass : ℕ) (request : Request) (moment many : ℕ) (a : Admitted) → a ≡ admit_reply edge opened request.asked request.place moment
+      → edge' ≡ admit_after edge pass opened request moment → many ≡ opened_by (reply_of a) → IsSound edge' control (opened + many)
+  admit_sound edge' pass request moment many a is left counted =
+      rw left (subst (λ n. IsSound (admit_after edge pass opened request moment) control (opened + n)) (sym (counted ∙ ap (λ x. opened_by (reply_of x)) is)) (sound_admit pass request moment))

@@ -27,6 +27,7 @@ use Rattle.history.specs.World.{Made, OneFetch, OneRefresh, Trigger, World}
 use Rattle.history.specs.declared.begun.Fetching.{Fetching}
 use Rattle.history.specs.declared.reply.Reply.{Reply}
 use Rattle.history.specs.declared.reply.Reply.TheVariants as reply
+use Rattle.history.specs.declared.heading.Heading.{Heading}
 use Rattle.node_core.proofs.StateLemmas.{after_opens, control_by, control_changed, control_kept, left_by, same_opened, state, told}
 use Rattle.node_core.proofs.StepLemmas.{answers_step, step_answer}
 use Rattle.node_core.specs.Logs.{control_of}
@@ -146,7 +147,7 @@ command_sound edge control control' opened id spec moment s room is left =
     let made = created_cases (is_full control.triggers) control.triggers (command_after control.triggers spec moment) (with_command control.triggers spec moment) id is refl in
     rw left (rw made.1 (record { begun = (let b = s.begun in omega arith); fetched = (let f = s.fetched in omega arith); few = more edge control opened s room; limit = s.limit; most_files = s.most_files; most_triggers = s.most_triggers }))
 
-module _ (made : Made) (h : History) (edge : EdgeView) (control : ControlView) (origin : List ℕ) (opened : ℕ) (s : Follows (state edge control origin opened) made h) where
+module _ (made : Made) (h : History) (edge : EdgeView) (control : ControlView) (heading : Heading) (opened : ℕ) (s : Follows (state edge control heading opened) made h) where
   abbrev w : World
   w = world_of made h
 
@@ -158,29 +159,29 @@ module _ (made : Made) (h : History) (edge : EdgeView) (control : ControlView) (
 
   -- nothing changes
   quiet : (e : Entry) (r : Reply) → r ≡ reply_in w e → edge_of (after_reply w e r) ≡ edge_of w → files_after w e r ≡ w.controlling.files → cut_file r ≡ None → opened_by r ≡ 0 → created_trigger r ≡ None
-      → triggers_after w e r ≡ w.controlling.triggers → Says made h e r (state edge control origin opened)
+      → triggers_after w e r ≡ w.controlling.triggers → Says made h e r (state edge control heading opened)
   quiet e r replied left files uncut none uncreated triggers =
-      told made h e r edge control origin opened replied
+      told made h e r edge control heading opened replied
       (s.edge ∙ sym (left_by w e r (sym replied) ∙ left))
-      (s.control ∙ control_kept w e r replied files uncut triggers uncreated) s.origin
+      (s.control ∙ control_kept w e r replied files uncut triggers uncreated) s.heading
       (s.opened ∙ same_opened w.counts.opened ∙ ap (λ n. w.counts.opened + n) (sym none) ∙ after_opens w e r replied)
 
   -- the triggers change
   moved : (change : List Trigger → List Trigger) (control' : ControlView) (e : Entry) (r : Reply) → control' ≡ with_triggers control (change control.triggers.triggers) → r ≡ reply_in w e → edge_of (after_reply w e r) ≡ edge_of w
-      → files_after w e r ≡ w.controlling.files → cut_file r ≡ None → opened_by r ≡ 0 → created_trigger r ≡ None → triggers_after w e r ≡ change w.controlling.triggers → Says made h e r (state edge control' origin opened)
+      → files_after w e r ≡ w.controlling.files → cut_file r ≡ None → opened_by r ≡ 0 → created_trigger r ≡ None → triggers_after w e r ≡ change w.controlling.triggers → Says made h e r (state edge control' heading opened)
   moved change control' e r is replied left files uncut none uncreated triggers =
-      told made h e r edge control' origin opened replied
+      told made h e r edge control' heading opened replied
       (s.edge ∙ sym (left_by w e r (sym replied) ∙ left))
-      (control_changed change control control' w e r s.control is replied files uncut triggers uncreated) s.origin
+      (control_changed change control control' w e r s.control is replied files uncut triggers uncreated) s.heading
       (s.opened ∙ same_opened w.counts.opened ∙ ap (λ n. w.counts.opened + n) (sym none) ∙ after_opens w e r replied)
 
   -- the triggers change, and something is opened
   opens : (change : List Trigger → List Trigger) (edge' : EdgeView) (control' : ControlView) (e : Entry) (r : Reply) → control' ≡ with_triggers control (change control.triggers.triggers) → r ≡ reply_in w e → edge' ≡ edge_of (after_reply w e r)
-      → files_after w e r ≡ w.controlling.files → cut_file r ≡ None → opened_by r ≡ 1 → created_trigger r ≡ None → triggers_after w e r ≡ change w.controlling.triggers → Says made h e r (state edge' control' origin (opened + 1))
+      → files_after w e r ≡ w.controlling.files → cut_file r ≡ None → opened_by r ≡ 1 → created_trigger r ≡ None → triggers_after w e r ≡ change w.controlling.triggers → Says made h e r (state edge' control' heading (opened + 1))
   opens change edge' control' e r is replied left files uncut one uncreated triggers =
-      told made h e r edge' control' origin (opened + 1) replied
+      told made h e r edge' control' heading (opened + 1) replied
       (left ∙ sym (left_by w e r (sym replied)))
-      (control_changed change control control' w e r s.control is replied files uncut triggers uncreated) s.origin
+      (control_changed change control control' w e r s.control is replied files uncut triggers uncreated) s.heading
       (ap (λ n. n + 1) s.opened ∙ ap (λ n. w.counts.opened + n) (sym one) ∙ after_opens w e r replied)
 
   opening_is : (t : Bool) (r : Reply) → (opened == edge.limits.opened) ≡ t → opening w r ≡ cond t (reply.Full w.counts.opened) r
@@ -200,28 +201,28 @@ module _ (made : Made) (h : History) (edge : EdgeView) (control : ControlView) (
         sym (ap (λ t. cond t (reply.Full (length w.controlling.triggers)) (opening w (reply.Created (w.counts.created + 1)))) (table_is full is)
         ∙ ap (λ r. cond full (reply.Full (length w.controlling.triggers)) r) (opening_is many (reply.Created (w.counts.created + 1)) also))
 
-    full_command : (count : ℕ) → reply.Full count ≡ reply_in w command → Says made h command (reply.Full count) (state edge control origin opened)
+    full_command : (count : ℕ) → reply.Full count ≡ reply_in w command → Says made h command (reply.Full count) (state edge control heading opened)
     full_command count replied = quiet command (reply.Full count) replied (squares.full_command_leaves w pass spec moment count) refl refl refl refl refl
 
     -- as many triggers are there as may be
-    pub full_command_told : (length control.triggers.triggers == edge.limits.triggers) ≡ true → Says made h command (reply.Full (length control.triggers.triggers)) (state edge control origin opened)
+    pub full_command_told : (length control.triggers.triggers == edge.limits.triggers) ≡ true → Says made h command (reply.Full (length control.triggers.triggers)) (state edge control heading opened)
     full_command_told is = full_command (length control.triggers.triggers) (ap (λ ts. reply.Full (length ts)) triggers_are ∙ command_by true (opened == edge.limits.opened) is refl)
 
     -- as many answers opened something as may
-    pub spent_command_told : (length control.triggers.triggers == edge.limits.triggers) ≡ false → (opened == edge.limits.opened) ≡ true → Says made h command (reply.Full opened) (state edge control origin opened)
+    pub spent_command_told : (length control.triggers.triggers == edge.limits.triggers) ≡ false → (opened == edge.limits.opened) ≡ true → Says made h command (reply.Full opened) (state edge control heading opened)
     spent_command_told is also = full_command opened (ap (λ n. reply.Full n) s.opened ∙ command_by false true is also)
 
     pub created_told : (control' : ControlView) (id : ℕ) → (length control.triggers.triggers == edge.limits.triggers) ≡ false → (opened == edge.limits.opened) ≡ false → Some id ≡ command_reply control.triggers
-        → control' ≡ with_table control (command_after control.triggers spec moment) → Says made h command (reply.Created id) (state edge control' origin (opened + 1))
+        → control' ≡ with_table control (command_after control.triggers spec moment) → Says made h command (reply.Created id) (state edge control' heading (opened + 1))
     created_told control' id is also numbered kept =
         let new = created_cases (is_full control.triggers) control.triggers (command_after control.triggers spec moment) (with_command control.triggers spec moment) id numbered refl in
         let next : reply.Created (w.counts.created + 1) ≡ reply_in w command = command_by false false is also in
         let replied : reply.Created id ≡ reply_in w command = ap (λ n. reply.Created n) (new.0 ∙ ap (λ (v : ControlView). v.triggers.created + 1) s.control) ∙ next in
-        told made h command (reply.Created id) edge control' origin (opened + 1) replied
+        told made h command (reply.Created id) edge control' heading (opened + 1) replied
         (s.edge ∙ sym (left_by w command (reply.Created id) (sym replied) ∙ squares.command_leaves w pass spec moment id))
         (kept ∙ ap (with_table control) new.1 ∙ ap (λ (v : ControlView). with_table v (with_command v.triggers spec moment)) s.control
         ∙ sym (control_by w command (reply.Created (w.counts.created + 1)) next ∙ control_commanded w pass spec moment))
-        s.origin
+        s.heading
         (ap (λ n. n + 1) s.opened ∙ after_opens w command (reply.Created id) replied)
 
   -- ---- steps
@@ -242,17 +243,17 @@ module _ (made : Made) (h : History) (edge : EdgeView) (control : ControlView) (
         ap (step_answer w id (first_job id now)) (sym is) ∙ ap (λ ts. step_answer w id (first_job id ts) (next_step pass (trigger_of id ts))) triggers_are
         ∙ sym (answers_step w pass id (trigger_of id w.controlling.triggers))
 
-    pub unknown_told : next ≡ step.Unknown → Says made h advance (reply.Unknown id) (state edge control origin opened)
+    pub unknown_told : next ≡ step.Unknown → Says made h advance (reply.Unknown id) (state edge control heading opened)
     unknown_told is = quiet advance (reply.Unknown id) (step_is step.Unknown is) (squares.step_unknown_leaves w pass id moment) refl refl refl refl refl
 
-    pub claimed_told : (claimant : ℕ) → next ≡ step.Claimed claimant → Says made h advance (reply.Claimed claimant) (state edge control origin opened)
+    pub claimed_told : (claimant : ℕ) → next ≡ step.Claimed claimant → Says made h advance (reply.Claimed claimant) (state edge control heading opened)
     claimed_told claimant is = quiet advance (reply.Claimed claimant) (step_is (step.Claimed claimant) is) (squares.step_claimed_leaves w pass id moment claimant) refl refl refl refl refl
 
-    pub open_told : (number : ℕ) → next ≡ step.StepOpen number → Says made h advance (reply.StepOpen number) (state edge control origin opened)
+    pub open_told : (number : ℕ) → next ≡ step.StepOpen number → Says made h advance (reply.StepOpen number) (state edge control heading opened)
     open_told number is = quiet advance (reply.StepOpen number) (step_is (step.StepOpen number) is) (squares.step_open_leaves w pass id moment number) refl refl refl refl refl
 
     -- it has ended before
-    pub final_told : (status : JobStatus) → next ≡ step.Final status → ((m : ℕ) → changed id (ended m status) now ≡ now) → Says made h advance (reply.Final status) (state edge control origin opened)
+    pub final_told : (status : JobStatus) → next ≡ step.Final status → ((m : ℕ) → changed id (ended m status) now ≡ now) → Says made h advance (reply.Final status) (state edge control heading opened)
     final_told status is stays =
         quiet advance (reply.Final status) (step_is (step.Final status) is) (squares.step_final_leaves w pass id moment status) refl refl refl refl
         (subst (λ ts. changed id (ended moment status) ts ≡ ts) triggers_are (stays moment))
@@ -261,21 +262,21 @@ module _ (made : Made) (h : History) (edge : EdgeView) (control : ControlView) (
     stepped x is = ap (λ y. changed id (made_by pass moment y) now) is
 
     -- it ends
-    pub end_told : (control' : ControlView) (status : JobStatus) → next ≡ step.End status → control' ≡ with_triggers control (step_after id pass moment now) → Says made h advance (reply.Final status) (state edge control' origin opened)
+    pub end_told : (control' : ControlView) (status : JobStatus) → next ≡ step.End status → control' ≡ with_triggers control (step_after id pass moment now) → Says made h advance (reply.Final status) (state edge control' heading opened)
     end_told control' status is left =
         moved (changed id (ended moment status)) control' advance (reply.Final status) (left ∙ ap (with_triggers control) (stepped (step.End status) is)) (step_is (step.End status) is) (squares.step_final_leaves w pass id moment status)
         refl refl refl refl refl
 
     -- as many answers opened something as may
-    pub full_step_told : (x : Step) (r : Reply) → next ≡ x → step_answer w id (first_job id now) x ≡ opening w r → (opened == edge.limits.opened) ≡ true → Says made h advance (reply.Full opened) (state edge control origin opened)
+    pub full_step_told : (x : Step) (r : Reply) → next ≡ x → step_answer w id (first_job id now) x ≡ opening w r → (opened == edge.limits.opened) ≡ true → Says made h advance (reply.Full opened) (state edge control heading opened)
     full_step_told x r is opening_answer full =
         let replied : reply.Full opened ≡ reply_in w advance = ap (λ n. reply.Full n) s.opened ∙ sym (opening_answer ∙ opening_is true r full) ∙ step_is x is in
         quiet advance (reply.Full opened) replied (squares.step_full_leaves w pass id moment opened) refl refl refl refl refl
 
-    pub full_start_told : next ≡ step.Start → (opened == edge.limits.opened) ≡ true → Says made h advance (reply.Full opened) (state edge control origin opened)
+    pub full_start_told : next ≡ step.Start → (opened == edge.limits.opened) ≡ true → Says made h advance (reply.Full opened) (state edge control heading opened)
     full_start_told is full = full_step_told step.Start reply.Started is refl full
 
-    pub full_refresh_told : next ≡ step.Refresh → (opened == edge.limits.opened) ≡ true → Says made h advance (reply.Full opened) (state edge control origin opened)
+    pub full_refresh_told : next ≡ step.Refresh → (opened == edge.limits.opened) ≡ true → Says made h advance (reply.Full opened) (state edge control heading opened)
     full_refresh_told is full = full_step_told step.Refresh (reply.Refresh (w.counts.refreshed + 1)) is refl full
 
     start_found : (found : Option Trigger) → trigger_of id w.controlling.triggers ≡ found → start_of w id ≡ option_and_then (λ (t : Trigger). start_by (position w) t.job.spec.kind t) found
@@ -294,7 +295,7 @@ module _ (made : Made) (h : History) (edge : EdgeView) (control : ControlView) (
 
     -- it becomes active
     pub started_told : (edge' : EdgeView) (control' : ControlView) (job : Option Job) → next ≡ step.Start → (opened == edge.limits.opened) ≡ false → job ≡ first_job id now → edge' ≡ started_by edge job
-        → control' ≡ with_triggers control (step_after id pass moment now) → Says made h advance reply.Started (state edge' control' origin (opened + 1))
+        → control' ≡ with_triggers control (step_after id pass moment now) → Says made h advance reply.Started (state edge' control' heading (opened + 1))
     started_told edge' control' job is room found left kept =
         opens (changed id (started pass moment)) edge' control' advance reply.Started (kept ∙ ap (with_triggers control) (stepped step.Start is))
         (sym (opening_is false reply.Started room) ∙ step_is step.Start is)
@@ -304,7 +305,7 @@ module _ (made : Made) (h : History) (edge : EdgeView) (control : ControlView) (
     -- it fetches its metadata
     pub refreshed_told : (edge' : EdgeView) (between control' : ControlView) (refresh : ℕ) → next ≡ step.Refresh → (opened == edge.limits.opened) ≡ false → refresh ≡ edge.refreshed + 1 → edge' ≡ begin_after edge pass moment (began.Due refresh)
         → between ≡ with_triggers control (step_after id pass moment now) → TriggersGoOn id next now between.triggers.triggers → control' ≡ with_triggers between (changed id (number_opened refresh) between.triggers.triggers)
-        → Says made h advance (reply.Refresh refresh) (state edge' control' origin (opened + 1))
+        → Says made h advance (reply.Refresh refresh) (state edge' control' heading (opened + 1))
     refreshed_told edge' between control' refresh is room number left done goes kept =
         let on : (n : ℕ) → changed id (number_opened n) between.triggers.triggers ≡ changed id (waiting (OneRefresh n)) now = subst (λ x. TriggersGoOn id x now between.triggers.triggers) is goes in
         let numbered : refresh ≡ w.counts.refreshed + 1 = number ∙ ap (λ (v : EdgeView). v.refreshed + 1) s.edge in
@@ -326,35 +327,35 @@ module _ (made : Made) (h : History) (edge : EdgeView) (control : ControlView) (
           ∙ ap (λ r. cond out (reply.Skipped place) r) (opening_is many (reply.Fetch (w.counts.fetched + 1) (plan_at (steps.index_of w.delivering) url) url) full_is)
 
       -- as many answers opened something as may
-      pub full_url_told : skips edge url ≡ false → (opened == edge.limits.opened) ≡ true → Says made h advance (reply.Full opened) (state edge control origin opened)
+      pub full_url_told : skips edge url ≡ false → (opened == edge.limits.opened) ≡ true → Says made h advance (reply.Full opened) (state edge control heading opened)
       full_url_told kept full =
           let replied : reply.Full opened ≡ reply_in w advance = ap (λ n. reply.Full n) s.opened ∙ sym (url_by false true kept full) ∙ url_step_is in
           quiet advance (reply.Full opened) replied (squares.step_full_leaves w pass id moment opened) refl refl refl refl refl
 
-      skip_told_by : (control' : ControlView) → reply.Skipped place ≡ reply_in w advance → control' ≡ with_triggers control (changed id (skipped place) now) → Says made h advance (reply.Skipped place) (state edge control' origin opened)
+      skip_told_by : (control' : ControlView) → reply.Skipped place ≡ reply_in w advance → control' ≡ with_triggers control (changed id (skipped place) now) → Says made h advance (reply.Skipped place) (state edge control' heading opened)
       skip_told_by control' replied left =
           moved (changed id (skipped place)) control' advance (reply.Skipped place) left replied (squares.step_skipped_leaves w pass id moment place) refl refl refl refl refl
 
       -- the URL is skipped, though the node is full
-      pub full_skip_told : (control' : ControlView) → skips edge url ≡ true → control' ≡ with_triggers control (changed id (skipped place) now) → Says made h advance (reply.Skipped place) (state edge control' origin opened)
+      pub full_skip_told : (control' : ControlView) → skips edge url ≡ true → control' ≡ with_triggers control (changed id (skipped place) now) → Says made h advance (reply.Skipped place) (state edge control' heading opened)
       full_skip_told control' out left = skip_told_by control' (sym (url_by true (opened == edge.limits.opened) out refl) ∙ url_step_is) left
 
-      pub full_skipped : (r : Reply) (v : StateView) → skips edge url ≡ true → r ≡ reply.Skipped place → v ≡ skipped_state (state edge control origin opened) id place → Says made h advance r v
+      pub full_skipped : (r : Reply) (v : StateView) → skips edge url ≡ true → r ≡ reply.Skipped place → v ≡ skipped_state (state edge control heading opened) id place → Says made h advance r v
       full_skipped r v out answer left = rw (answer, left) (full_skip_told (with_triggers control (changed id (skipped place) now)) out refl)
 
       -- the URL is skipped
-      pub skip_told : (control' : ControlView) → None ≡ plan_reply edge url → control' ≡ with_triggers control (changed id (skipped place) now) → Says made h advance (reply.Skipped place) (state edge control' origin opened)
+      pub skip_told : (control' : ControlView) → None ≡ plan_reply edge url → control' ≡ with_triggers control (changed id (skipped place) now) → Says made h advance (reply.Skipped place) (state edge control' heading opened)
       skip_told control' out left =
           skip_told_by control' (sym (squares.skipped_replies w pass id moment url (ap (λ v. plan_reply v url) (sym s.edge) ∙ sym out) place) ∙ url_step_is) left
 
-      pub skipped_says : (edge' : EdgeView) (r : Reply) (v : StateView) → None ≡ plan_reply edge url → edge' ≡ plan_after edge pass url → r ≡ reply.Skipped place → v ≡ skipped_state (state edge' control origin opened) id place
+      pub skipped_says : (edge' : EdgeView) (r : Reply) (v : StateView) → None ≡ plan_reply edge url → edge' ≡ plan_after edge pass url → r ≡ reply.Skipped place → v ≡ skipped_state (state edge' control heading opened) id place
           → Says made h advance r v
       skipped_says edge' r v out kept answer left = rw (answer, left, unplanned edge edge' pass url out kept) (skip_told (with_triggers control (changed id (skipped place) now)) out refl)
 
       -- it fetches the URL
       pub fetch_told : (edge' : EdgeView) (between control' : ControlView) (planned : Planned) → (opened == edge.limits.opened) ≡ false → Some planned ≡ plan_reply edge url → edge' ≡ plan_after edge pass url
           → between ≡ with_triggers control (step_after id pass moment now) → TriggersGoOn id next now between.triggers.triggers → control' ≡ with_triggers between (changed id (number_opened planned.fetch) between.triggers.triggers)
-          → Says made h advance (reply.Fetch planned.fetch planned.plan url) (state edge' control' origin (opened + 1))
+          → Says made h advance (reply.Fetch planned.fetch planned.plan url) (state edge' control' heading (opened + 1))
       fetch_told edge' between control' planned room out left done goes kept =
           let on : ((n : ℕ) → changed id (number_opened n) between.triggers.triggers ≡ changed id (waiting (OneFetch n)) now) × (changed id (step_ended false) between.triggers.triggers ≡ changed id (skipped place) now) = subst (λ x. TriggersGoOn id x now between.triggers.triggers) is goes in
           let out_is : plan_reply (edge_of w) url ≡ Some planned = ap (λ v. plan_reply v url) (sym s.edge) ∙ sym out in
@@ -385,47 +386,47 @@ module _ (made : Made) (h : History) (edge : EdgeView) (control : ControlView) (
     list_is filter ids is = ap (reply.Collection filter) (is ∙ ap (listed filter) triggers_are)
 
     cancel_by : (ids : List ℕ) (moment : ℕ) (control' : ControlView) (c : Result (List JobStatus) ℕ) (r : Reply) (found : Option ℕ) → first_unknown control.triggers.triggers ids ≡ found → c ≡ table.cancel_reply_by control.triggers.triggers ids moment found
-        → control' ≡ with_triggers control (table.cancel_after_by control.triggers.triggers ids moment found) → r ≡ cancel_reply c → Says made h (pass, Cancel ids moment) r (state edge control' origin opened)
+        → control' ≡ with_triggers control (table.cancel_after_by control.triggers.triggers ids moment found) → r ≡ cancel_reply c → Says made h (pass, Cancel ids moment) r (state edge control' heading opened)
     cancel_by ids moment control' c r None unknown is left answer =
         let e : Entry = (pass, Cancel ids moment) in
         let r_is : r ≡ reply.Statuses (steps.statuses_of (steps.cancelled moment ids control.triggers.triggers) ids) = answer ∙ ap cancel_reply is in
-        subst (λ x. Says made h e x (state edge control' origin opened)) (sym r_is)
+        subst (λ x. Says made h e x (state edge control' heading opened)) (sym r_is)
         (moved (steps.cancelled moment ids) control' e (reply.Statuses (steps.statuses_of (steps.cancelled moment ids control.triggers.triggers) ids)) left
         (ap (λ ts. reply.Statuses (steps.statuses_of (steps.cancelled moment ids ts) ids)) triggers_are ∙ cancel_is ids moment None unknown) (squares.cancel_leaves w pass ids moment _) refl refl refl refl refl)
     cancel_by ids moment control' c r (Some id) unknown is left answer =
         let e : Entry = (pass, Cancel ids moment) in
-        subst (λ x. Says made h e x (state edge control' origin opened)) (sym (answer ∙ ap cancel_reply is))
-        (subst (λ v. Says made h e (reply.Unknown id) (state edge v origin opened)) (sym left)
+        subst (λ x. Says made h e x (state edge control' heading opened)) (sym (answer ∙ ap cancel_reply is))
+        (subst (λ v. Says made h e (reply.Unknown id) (state edge v heading opened)) (sym left)
         (quiet e (reply.Unknown id) (cancel_is ids moment (Some id) unknown) (squares.no_cancel_leaves w pass ids moment id) refl refl refl refl refl))
 
     pub cancel_told : (ids : List ℕ) (moment : ℕ) (control' : ControlView) (c : Result (List JobStatus) ℕ) (r : Reply) → c ≡ table.cancel_reply control.triggers.triggers ids moment
-        → control' ≡ with_triggers control (table.cancel_after control.triggers.triggers ids moment) → r ≡ cancel_reply c → Says made h (pass, Cancel ids moment) r (state edge control' origin opened)
+        → control' ≡ with_triggers control (table.cancel_after control.triggers.triggers ids moment) → r ≡ cancel_reply c → Says made h (pass, Cancel ids moment) r (state edge control' heading opened)
     cancel_told ids moment control' c r is left answer = cancel_by ids moment control' c r (first_unknown control.triggers.triggers ids) refl is left answer
 
     delete_by : (id : ℕ) (control' : ControlView) (deleted : Bool) (r : Reply) (found : Option Trigger) → trigger_of id control.triggers.triggers ≡ found → deleted ≡ is_some found → control' ≡ with_triggers control (without id control.triggers.triggers)
-        → r ≡ delete_reply id deleted → Says made h (pass, Delete id) r (state edge control' origin opened)
+        → r ≡ delete_reply id deleted → Says made h (pass, Delete id) r (state edge control' heading opened)
     delete_by id control' deleted r None there is left answer =
-        subst (λ x. Says made h (pass, Delete id) x (state edge control' origin opened)) (sym (answer ∙ ap (delete_reply id) is))
+        subst (λ x. Says made h (pass, Delete id) x (state edge control' heading opened)) (sym (answer ∙ ap (delete_reply id) is))
         (moved (without id) control' (pass, Delete id) (reply.Unknown id) left (delete_is id None there) (squares.no_delete_leaves w pass id) refl refl refl refl refl)
     delete_by id control' deleted r (Some t) there is left answer =
-        subst (λ x. Says made h (pass, Delete id) x (state edge control' origin opened)) (sym (answer ∙ ap (delete_reply id) is))
+        subst (λ x. Says made h (pass, Delete id) x (state edge control' heading opened)) (sym (answer ∙ ap (delete_reply id) is))
         (moved (without id) control' (pass, Delete id) reply.Deleted left (delete_is id (Some t) there) (squares.delete_leaves w pass id) refl refl refl refl refl)
 
     pub delete_told : (id : ℕ) (control' : ControlView) (deleted : Bool) (r : Reply) → deleted ≡ is_some (trigger_of id control.triggers.triggers) → control' ≡ with_triggers control (without id control.triggers.triggers)
-        → r ≡ delete_reply id deleted → Says made h (pass, Delete id) r (state edge control' origin opened)
+        → r ≡ delete_reply id deleted → Says made h (pass, Delete id) r (state edge control' heading opened)
     delete_told id control' deleted r is left answer = delete_by id control' deleted r (trigger_of id control.triggers.triggers) refl is left answer
 
-    status_by : (id : ℕ) (r : Reply) (found : Option Trigger) → trigger_of id control.triggers.triggers ≡ found → r ≡ status_reply id (option_map (λ (t : Trigger). t.job) found) → Says made h (pass, ReadStatus id) r (state edge control origin opened)
+    status_by : (id : ℕ) (r : Reply) (found : Option Trigger) → trigger_of id control.triggers.triggers ≡ found → r ≡ status_reply id (option_map (λ (t : Trigger). t.job) found) → Says made h (pass, ReadStatus id) r (state edge control heading opened)
     status_by id r None there answer =
-        subst (λ x. Says made h (pass, ReadStatus id) x (state edge control origin opened)) (sym answer)
+        subst (λ x. Says made h (pass, ReadStatus id) x (state edge control heading opened)) (sym answer)
         (quiet (pass, ReadStatus id) (reply.Unknown id) (status_is id None there) (squares.no_status_leaves w pass id) refl refl refl refl refl)
     status_by id r (Some t) there answer =
-        subst (λ x. Says made h (pass, ReadStatus id) x (state edge control origin opened)) (sym answer)
+        subst (λ x. Says made h (pass, ReadStatus id) x (state edge control heading opened)) (sym answer)
         (quiet (pass, ReadStatus id) (reply.Resource t.job) (status_is id (Some t) there) (squares.status_leaves w pass id t.job) refl refl refl refl refl)
 
-    pub status_told : (id : ℕ) (job : Option Job) (r : Result Reply AllocError) → job ≡ first_job id control.triggers.triggers → IfOk r (λ a. a ≡ status_reply id job) → IfOk r (λ a. Says made h (pass, ReadStatus id) a (state edge control origin opened))
+    pub status_told : (id : ℕ) (job : Option Job) (r : Result Reply AllocError) → job ≡ first_job id control.triggers.triggers → IfOk r (λ a. a ≡ status_reply id job) → IfOk r (λ a. Says made h (pass, ReadStatus id) a (state edge control heading opened))
     status_told id job (Ok a) is answer = status_by id a (trigger_of id control.triggers.triggers) refl (answer ∙ ap (status_reply id) is)
     status_told id job (Err e) is answer = tt
 
-    pub list_told : (filter : Filter) (ids : List ℕ) → ids ≡ listed filter control.triggers.triggers → Says made h (pass, Lists filter) (reply.Collection filter ids) (state edge control origin opened)
+    pub list_told : (filter : Filter) (ids : List ℕ) → ids ≡ listed filter control.triggers.triggers → Says made h (pass, Lists filter) (reply.Collection filter ids) (state edge control heading opened)
     list_told filter ids is = quiet (pass, Lists filter) (reply.Collection filter ids) (list_is filter ids is) (squares.collection_leaves w pass filter ids) refl refl refl refl refl

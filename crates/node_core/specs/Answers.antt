@@ -93,7 +93,7 @@ answers_drop_log answer = false
 
 -- the reply is one of those to such a call
 abbrev pub answers : Event → Reply → Bool
-answers (Admit asked place moment) answer = answers_admit answer
+answers (Admit request moment) answer = answers_admit answer
 answers (FetchEnd fetch outcome moment) answer = answers_fetch_end answer
 answers (Finish delivery status total entity moment) answer = answers_finish answer
 answers (RefreshBegin moment) answer = answers_refresh_begin answer

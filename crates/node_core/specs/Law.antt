@@ -2,14 +2,13 @@
 use Rattle.std.specs.Prelude.{◌≡◌, ℕ, ◌+◌, ◌-◌, ◌^◌, ◌<◌, ◌≤◌, min, true, IsTrue, Contains, List, [], ◌∷◌, ◌++◌, length, Some}
 use Rattle.std.specs.List.{slice_get}
 use Rattle.std.specs.declared.option.Option.{Option}
-use Rattle.cdni_base.specs.declared.asked.Asked.{Asked}
 use Rattle.cdni_base.specs.declared.rule.Rule.{Rule}
 use Rattle.delivery_law.specs.Denials.{Forbids, IsFirstToForbid, IsInForce, is_admitted}
 use Rattle.delivery_law.specs.Fetches.{BeginsItsFetch, IsOfOneFetch}
 use Rattle.delivery_law.specs.LogRows.{HasRow}
 use Rattle.delivery_law.specs.Metadata.{HasUnhitMetadata, uses_metadata}
 use Rattle.delivery_law.specs.Refreshes.{IsFreshAt, IsUntouched, WasTakenBack}
-use Rattle.history.specs.Event.{Event, History, Admit, Cancel, Finish, RefreshBegin, RefreshEnd}
+use Rattle.history.specs.Event.{Event, History, Admit, Cancel, Finish, RefreshBegin, RefreshEnd, Request}
 use Rattle.history.specs.History.{AnsweredAt, world_of}
 use Rattle.history.specs.Steps.{trigger_of}
 use Rattle.history.specs.World.{Installed, Made, Trigger}
@@ -17,7 +16,6 @@ use Rattle.history.specs.declared.reply.Reply.{Reply}
 use Rattle.history.specs.declared.reply.Reply.TheVariants as reply
 use Rattle.kept_law.specs.KeptObjects.{KeepsObjects, LeavesObjects, objects_after}
 use Rattle.limit_law.specs.Counts.{HasRoom, IsFull, opened_in, opens}
-use Rattle.location_acl.specs.declared.footprint.Place.{Place}
 use Rattle.metadata_objects.specs.Tree.{TreeData}
 use Rattle.record_law.specs.LogFiles.{KeepsRecord}
 use Rattle.targets.specs.declared.endpoint.Endpoint.{Endpoint}
@@ -31,18 +29,18 @@ with_call h pass event = h ++ (pass, event) ∷ []
 -- A denial names the first rule that forbids, and what is admitted none forbids. A hit has what one fetch brought; a miss
 -- begins its own fetch; and what is read from the metadata is read from metadata that nothing has taken back.
 pub record IsLawfulAdmission (made : Made) (h : History) (pass : ℕ) (event : Event) (answer : Reply) : Type 0 where
-  pub denied : (asked : Asked) (place : Place) (moment delivery : ℕ) (rule : Rule)
-      → event ≡ Admit asked place moment → answer ≡ reply.Denied delivery rule
-      → IsFirstToForbid made h asked place moment rule
-  pub admitted : (asked : Asked) (place : Place) (moment : ℕ) (rule : Rule) → event ≡ Admit asked place moment
-      → IsTrue (is_admitted answer) → Forbids made h asked place moment rule → ⊥
-  pub hit : (asked : Asked) (place : Place) (moment delivery fetch : ℕ) (kind body : List ℕ)
-      → event ≡ Admit asked place moment → answer ≡ reply.Hit delivery fetch kind body
-      → IsOfOneFetch made h asked.target fetch kind body
-  pub miss : (asked : Asked) (place : Place) (moment delivery fetch : ℕ) (plan : List Endpoint)
-      → event ≡ Admit asked place moment → answer ≡ reply.Miss delivery fetch plan
-      → BeginsItsFetch made h (pass, Admit asked place moment) asked.target fetch plan
-  pub metadata : (asked : Asked) (place : Place) (moment : ℕ) → event ≡ Admit asked place moment
+  pub denied : (request : Request) (moment delivery : ℕ) (rule : Rule)
+      → event ≡ Admit request moment → answer ≡ reply.Denied delivery rule
+      → IsFirstToForbid made h request moment rule
+  pub admitted : (request : Request) (moment : ℕ) (rule : Rule) → event ≡ Admit request moment
+      → IsTrue (is_admitted answer) → Forbids made h request moment rule → ⊥
+  pub hit : (request : Request) (moment delivery fetch : ℕ) (kind body : List ℕ)
+      → event ≡ Admit request moment → answer ≡ reply.Hit delivery fetch kind body
+      → IsOfOneFetch made h request.asked.target fetch kind body
+  pub miss : (request : Request) (moment delivery fetch : ℕ) (plan : List Endpoint)
+      → event ≡ Admit request moment → answer ≡ reply.Miss delivery fetch plan
+      → BeginsItsFetch made h (pass, Admit request moment) request.asked.target fetch plan
+  pub metadata : (request : Request) (moment : ℕ) → event ≡ Admit request moment
       → IsTrue (uses_metadata answer) → HasUnhitMetadata made h
 
 -- No refresh is due exactly where fresh metadata is installed. What a refresh brings is stale exactly where a trigger has

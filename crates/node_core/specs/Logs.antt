@@ -4,15 +4,17 @@ use Rattle.std.specs.declared.option.Option.{Option}
 use Rattle.cdni_log.specs.File.{file_text}
 use Rattle.control_core.specs.Control.{ControlView}
 use Rattle.control_core.specs.declared.control.LogFile.{LogFile}
+use Rattle.history.specs.Reply.{file_head}
 use Rattle.history.specs.World.{Filed, World}
+use Rattle.history.specs.declared.heading.Heading.{Heading}
 use Rattle.history.specs.declared.reply.Reply.{Reply}
 use Rattle.history.specs.declared.reply.Reply.TheVariants as reply
 
--- a log file that claims this host, with its bytes
-abbrev pub file_in : List ℕ → Filed → LogFile
-file_in origin filed = record {
+-- a log file under this heading, with its bytes
+abbrev pub file_in : Heading → Filed → LogFile
+file_in heading filed = record {
   number = filed.number;
-  text = file_text (record { number = filed.number; moment = filed.moment; origin = origin }) filed.rows;
+  text = file_text (file_head heading filed.number filed.moment) filed.rows;
 }
 
 abbrev pub control_of : World → ControlView
@@ -22,7 +24,7 @@ control_of w = record {
     most = w.made.limits.triggers;
     created = w.counts.created;
   };
-  files = map (file_in w.made.origin) w.controlling.files;
+  files = map (file_in w.made.heading) w.controlling.files;
   most = w.made.limits.files;
   filed = w.counts.filed;
 }

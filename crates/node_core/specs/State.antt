@@ -12,13 +12,14 @@ use Rattle.history.specs.World.{Kept, Made, World}
 use Rattle.node_core.specs.Logs.{control_of}
 use Rattle.history.specs.declared.reply.Reply.{Reply}
 use Rattle.history.specs.declared.reply.Reply.TheVariants as reply
+use Rattle.history.specs.declared.heading.Heading.{Heading}
 
 -- what is installed, kept and open, the triggers and log files, the host that the files claim, and how many answers opened
 -- something
 pub record StateView : Type 0 where
   pub edge : EdgeView
   pub control : ControlView
-  pub origin : List ℕ
+  pub heading : Heading
   pub opened : ℕ
 
 -- that, and what is in memory of what fetches brought: the kept objects, and those that starts have hit and that have not
@@ -40,7 +41,7 @@ pub record IsSound (edge : EdgeView) (control : ControlView) (opened : ℕ) : Ty
 pub record IsLeft (v : StateView) (w : World) : Type 0 where
   pub edge : v.edge ≡ edge_of w
   pub control : v.control ≡ control_of w
-  pub origin : v.origin ≡ w.made.origin
+  pub heading : v.heading ≡ w.made.heading
   pub opened : v.opened ≡ w.counts.opened
 
 -- the state is what the history leaves of a node that is made so

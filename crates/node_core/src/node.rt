@@ -3,7 +3,7 @@
 ghost use Rattle.std.specs.Prelude.{◌≡◌, ◌+◌, ◌^◌, ◌<◌, ◌≤◌, [], ◌∷◌, ◌++◌, true, false, length, IfOk, IsOk, OnErr, OnOk};
 ghost use Rattle.history.specs.Event.{History, event_of};
 ghost use Rattle.history.specs.Kept.{total};
-ghost use Rattle.history.specs.World.{Made};
+ghost use Rattle.history.specs.World.{Made, node_made};
 ghost use Rattle.node_core.specs.Answers.{answers};
 ghost use Rattle.node_core.specs.Call.{is_end};
 ghost use Rattle.delivery_core.specs.OpenCount.{begun_count};
@@ -16,8 +16,9 @@ use crate::entered::{Entered, is_end, need_of, stripped};
 use crate::law::every_answer_is_lawful;
 use crate::state::State;
 use cdni_base::{Limits, Text};
+use cdni_log::FieldList;
 use history::laws::{later_numbers_are_greater, what_is_open_has_begun_and_not_ended};
-use history::{Call, Reply};
+use history::{Call, Heading, Reply};
 use journal::Journal;
 use std::alloc::{AllocError, Global};
 use std::marker::Model;
@@ -53,24 +54,30 @@ impl Model for Node {
           (coded_list generic.the_row.coded) coded_ℕ))),
     ) };
 
-    ghost view = { λ n. node_view (record { limits = n.limits; origin = n.state.seen.origin }) n.state n.journal };
+    ghost view = { λ n. node_view (record { limits = n.limits; heading = n.state.seen.heading }) n.state n.journal };
 
     ghost invariant = { λ n. (open_count n.state.seen.edge ≤ n.places) × (n.places ≤ n.reserved)
         × (n.reserved ≤ n.journal.spare) };
 }
 
 impl Node {
-    /// The node that stands for the empty history under these limits, whose log files claim this host.
+    /// The node that stands for the empty history under these limits, whose log files claim this host and have these
+    /// fields.
     ///
     /// # Errors
     /// Want of memory.
-    pub fn new(alloc: Global, limits: &Limits, origin: Text) -> Result<Node, AllocError>
-        ensures stands { IfOk result (λ node. Stands node (record { limits = limits.now; origin = origin }) []) }
-        ensures made { IfOk result (λ node. node.made ≡ record { limits = limits.now; origin = origin }) }
+    pub fn new(
+        alloc: Global,
+        limits: &Limits,
+        origin: Text,
+        fields: FieldList,
+    ) -> Result<Node, AllocError>
+        ensures stands { IfOk result (λ node. Stands node (node_made limits.now origin fields) []) }
+        ensures made { IfOk result (λ node. node.made ≡ node_made limits.now origin fields) }
     {
         Ok(Node {
             limits: *limits,
-            state: State::new(alloc, limits, origin)?,
+            state: State::new(alloc, limits, Heading { origin, fields })?,
             journal: Journal::new(alloc)?,
             places: 0,
             reserved: 0,

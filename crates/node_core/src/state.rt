@@ -8,7 +8,7 @@ ghost use Rattle.shelf.specs.KeptShelf.{IsPartOf, IsPartOfOrKept};
 ghost use Rattle.shelf.specs.Open.{is_named};
 ghost use Rattle.delivery_core.specs.Traces.{reply_of, fetch_ended, finished, refresh_ended};
 ghost use Rattle.history.specs.After.{is_fetched, opened_by};
-ghost use Rattle.history.specs.Event.{History, event_of, Admit, FetchEnd, Finish, RefreshBegin, RefreshEnd, Cut, DropLog, ListLogs, LogFile};
+ghost use Rattle.history.specs.Event.{History, event_of, request_of, Admit, FetchEnd, Finish, RefreshBegin, RefreshEnd, Cut, DropLog, ListLogs, LogFile};
 ghost use Rattle.metadata_objects.specs.Tree.{tree_view};
 ghost use Rattle.history.specs.World.{Made};
 ghost use Rattle.node_core.specs.Answers.{answers, answers_admit, answers_cut, answers_drop_log, answers_finish, answers_fetch_end, answers_list_logs, answers_log_file, answers_refresh_begin, answers_refresh_end};
@@ -21,10 +21,10 @@ ghost use Rattle.node_core.specs.Needed.{is_needed_for};
 
 use crate::entered::Need;
 use cdni_base::{Asked, Limits, Moment, Text};
-use cdni_log::FileHead;
+use cdni_log::{ExtraList, FileHead};
 use control_core::Control;
 use delivery_core::{Admitted, Began, Edge, RefreshEnded};
-use history::{Call, Reply};
+use history::{Call, Heading, Reply};
 use location_acl::Place;
 use metadata_objects::Tree;
 use std::alloc::{AllocError, Global};
@@ -33,12 +33,12 @@ use upstream_gate::Outcome;
 
 mod triggers;
 
-/// What is installed, kept and open, the log files with the host that they claim, and how many answers opened something.
+/// What is installed, kept and open, the log files with what they say at their top, and how many answers opened something.
 #[derive(Drop)]
 pub(crate) struct State {
     edge: Edge,
     control: Control,
-    origin: Text,
+    heading: Heading,
     opened: u64,
 }
 
@@ -59,7 +59,7 @@ impl Model for State {
     ) };
 
     ghost view = { λ c. record {
-      seen = record { edge = c.edge.seen; control = c.control; origin = c.origin; opened = c.opened };
+      seen = record { edge = c.edge.seen; control = c.control; heading = c.heading; opened = c.opened };
       held = c.edge.held;
     } };
 
@@ -71,15 +71,15 @@ impl State {
     ///
     /// # Errors
     /// Want of memory.
-    pub fn new(alloc: Global, limits: &Limits, origin: Text) -> Result<State, AllocError>
-        ensures follows { IfOk result (λ state. Follows state.seen (record { limits = limits.now; origin = origin }) []) }
+    pub fn new(alloc: Global, limits: &Limits, heading: Heading) -> Result<State, AllocError>
+        ensures follows { IfOk result (λ state. Follows state.seen (record { limits = limits.now; heading = heading }) []) }
         ensures held { IfOk result (λ state. state.held ≡ []) }
     {
         let _opened = limits.opened;
         Ok(State {
             edge: Edge::new(alloc, limits)?,
             control: Control::new(alloc, limits)?,
-            origin,
+            heading,
             opened: 0,
         })
     }
@@ -114,7 +114,7 @@ impl State {
         ensures told { (made : Made) (h : History) → Follows self.old.seen made h
             → Says made h (pass, event_of call) result self.new.seen }
         ensures kind { answers (event_of call) result ≡ true }
-        ensures origin { self.new.seen.origin ≡ self.old.seen.origin }
+        ensures heading { self.new.seen.heading ≡ self.old.seen.heading }
         ensures ends { Ends self.old.seen self.new.seen (ends_open self.old.seen.edge pass (event_of call)) result }
         ensures held { IsPartOfOrKept self.new.held self.old.held self.new.seen.edge.kept }
         ensures closed { ends_open self.old.seen.edge pass (event_of call) ≡ false → self.new.held ≡ self.old.held }
@@ -150,7 +150,7 @@ impl State {
         ensures told { (made : Made) (h : History) → Follows self.old.seen made h
             → IfOk result (λ r. Says made h (pass, event_of call.now) r self.new.seen) }
         ensures kind { IfOk result (λ r. answers (event_of call.now) r ≡ true) }
-        ensures origin { self.new.seen.origin ≡ self.old.seen.origin }
+        ensures heading { self.new.seen.heading ≡ self.old.seen.heading }
         ensures places { IfOk result (λ r. open_count self.new.seen.edge ≤ open_count self.old.seen.edge + begun_count r) }
         ensures held { IsPartOfOrKept self.new.held self.old.held self.new.seen.edge.kept }
         ensures swept { IfOk result (λ r. completes_purge self.old.seen.control.triggers.triggers (event_of call.now) r ≡ true
@@ -162,8 +162,16 @@ impl State {
             Call::Admit {
                 asked,
                 place,
+                extra,
                 moment,
-            } => self.admit(alloc, pass, asked.clone()?, *place, *moment),
+            } => self.admit(
+                alloc,
+                pass,
+                asked.clone()?,
+                *place,
+                extra_of(extra)?,
+                *moment,
+            ),
             Call::Cut { moment } => self.cut(alloc, *moment),
             Call::LogFile { number } => self.log_file(alloc, *number),
             Call::ListLogs => self.list_logs(alloc),
@@ -187,7 +195,7 @@ impl State {
         ensures told { (made : Made) (h : History) → Follows self.old.seen made h
             → IfOk result (λ r. Says made h (pass, RefreshBegin moment) r self.new.seen) }
         ensures kind { IfOk result (λ r. answers_refresh_begin r ≡ true) }
-        ensures origin { self.new.seen.origin ≡ self.old.seen.origin }
+        ensures heading { self.new.seen.heading ≡ self.old.seen.heading }
         ensures places { IfOk result (λ r. open_count self.new.seen.edge ≤ open_count self.old.seen.edge + begun_count r) }
         ensures held { self.new.held ≡ self.old.held }
         ensures err { OnErr result (self.new ≡ self.old) }
@@ -212,7 +220,7 @@ impl State {
         ensures told { (made : Made) (h : History) (moment : ℕ) → Follows self.old.seen made h
             → Says made h (pass, RefreshEnd refresh (option_map tree_view tree) moment) result self.new.seen }
         ensures kind { answers_refresh_end result ≡ true }
-        ensures origin { self.new.seen.origin ≡ self.old.seen.origin }
+        ensures heading { self.new.seen.heading ≡ self.old.seen.heading }
         ensures ends { Ends self.old.seen self.new.seen (list_any (is_named refresh pass) self.old.seen.edge.refreshes) result }
         ensures held { self.new.held ≡ self.old.held }
     {
@@ -227,19 +235,20 @@ impl State {
         pass: u32,
         asked: Asked,
         place: Place,
+        extra: ExtraList,
         moment: Moment,
     ) -> Result<Reply, AllocError>
         ensures told { (made : Made) (h : History) → Follows self.old.seen made h
-            → IfOk result (λ r. Says made h (pass, Admit asked place moment) r self.new.seen) }
+            → IfOk result (λ r. Says made h (pass, Admit (request_of asked place extra) moment) r self.new.seen) }
         ensures kind { IfOk result (λ r. answers_admit r ≡ true) }
-        ensures origin { self.new.seen.origin ≡ self.old.seen.origin }
+        ensures heading { self.new.seen.heading ≡ self.old.seen.heading }
         ensures places { IfOk result (λ r. open_count self.new.seen.edge ≤ open_count self.old.seen.edge + begun_count r) }
         ensures held { IsPartOf self.new.held self.old.held }
         ensures err { OnErr result (self.new ≡ self.old) }
     {
         let admitted = self
             .edge
-            .admit(alloc, pass, self.opened, asked, place, moment)?;
+            .admit(alloc, pass, self.opened, asked, place, extra, moment)?;
         self.opened += opened_by(&admitted);
         Ok(reply_of(admitted))
     }
@@ -248,7 +257,7 @@ impl State {
         ensures told { (made : Made) (h : History) (moment : ℕ) → Follows self.old.seen made h
             → Says made h (pass, FetchEnd fetch outcome moment) result self.new.seen }
         ensures kind { answers_fetch_end result ≡ true }
-        ensures origin { self.new.seen.origin ≡ self.old.seen.origin }
+        ensures heading { self.new.seen.heading ≡ self.old.seen.heading }
         ensures ends { Ends self.old.seen self.new.seen (list_any (is_named fetch pass) self.old.seen.edge.fetches) result }
         ensures held { IsPartOfOrKept self.new.held self.old.held self.new.seen.edge.kept }
         ensures closed { list_any (is_named fetch pass) self.old.seen.edge.fetches ≡ false → self.new.held ≡ self.old.held }
@@ -271,7 +280,7 @@ impl State {
         ensures told { (made : Made) (h : History) → Follows self.old.seen made h
             → Says made h (pass, Finish delivery status total entity moment) result self.new.seen }
         ensures kind { answers_finish result ≡ true }
-        ensures origin { self.new.seen.origin ≡ self.old.seen.origin }
+        ensures heading { self.new.seen.heading ≡ self.old.seen.heading }
         ensures ends { Ends self.old.seen self.new.seen (list_any (is_named delivery pass) self.old.seen.edge.deliveries) result }
         ensures held { self.new.held ≡ self.old.held }
     {
@@ -285,7 +294,7 @@ impl State {
         ensures told { (made : Made) (h : History) (pass : ℕ) → Follows self.old.seen made h
             → IfOk result (λ r. Says made h (pass, Cut moment) r self.new.seen) }
         ensures kind { IfOk result (λ r. answers_cut r ≡ true) }
-        ensures origin { self.new.seen.origin ≡ self.old.seen.origin }
+        ensures heading { self.new.seen.heading ≡ self.old.seen.heading }
         ensures same { open_count self.new.seen.edge ≡ open_count self.old.seen.edge }
         ensures held { self.new.held ≡ self.old.held }
         ensures err { OnErr result (self.new ≡ self.old) }
@@ -300,10 +309,12 @@ impl State {
         if self.opened == self.edge.limits().opened {
             return Ok(Reply::Full { count: self.opened });
         }
+        let heading = copy_of(&self.heading)?;
         let head = FileHead {
             number: self.control.filed() + 1,
             moment,
-            origin: copy_of(&self.origin)?,
+            origin: heading.origin,
+            fields: heading.fields,
         };
         let rows = self.edge.take_rows(alloc)?;
         let Some(number) = self.control.file(head, rows) else {
@@ -337,7 +348,7 @@ impl State {
         ensures told { (made : Made) (h : History) (pass : ℕ) → Follows self.old.seen made h
             → Says made h (pass, DropLog number) result self.new.seen }
         ensures kind { answers_drop_log result ≡ true }
-        ensures origin { self.new.seen.origin ≡ self.old.seen.origin }
+        ensures heading { self.new.seen.heading ≡ self.old.seen.heading }
         ensures same { self.new.seen.edge ≡ self.old.seen.edge }
         ensures held { self.new.held ≡ self.old.held }
     {
@@ -346,10 +357,16 @@ impl State {
     }
 }
 
-fn copy_of(text: &Text) -> Result<Text, AllocError>
-    ensures { IfOk result (λ copy. copy ≡ text.now) }
+fn extra_of(extra: &ExtraList) -> Result<ExtraList, AllocError>
+    ensures { IfOk result (λ copy. copy ≡ extra.now) }
 {
-    Ok(text.clone()?)
+    extra.clone()
+}
+
+fn copy_of(heading: &Heading) -> Result<Heading, AllocError>
+    ensures { IfOk result (λ copy. copy ≡ heading.now) }
+{
+    Ok(heading.clone()?)
 }
 
 // the reply to the reading of a log file with this text

@@ -140,11 +140,11 @@ module _ (w : World) (pass number : ℕ) where
 pub change : (w : World) (e : Entry) → Change w e (reply_in w e) (papers_after w e (reply_in w e))
 change w (pass, Cut moment) = cuts w pass moment
 change w (pass, DropLog number) = dropped w pass number
-change w (pass, Admit asked place moment) = admit_cases w pass asked place moment (Changes w (pass, Admit asked place moment))
-    (λ n. writes w (pass, Admit asked place moment) _ refl refl refl)
-    (λ rule. writes w (pass, Admit asked place moment) _ refl refl refl)
-    (λ kept is. writes w (pass, Admit asked place moment) _ refl refl refl)
-    (λ is. writes w (pass, Admit asked place moment) _ refl refl refl)
+change w (pass, Admit request moment) = admit_cases w pass request moment (Changes w (pass, Admit request moment))
+    (λ n. writes w (pass, Admit request moment) _ refl refl refl)
+    (λ rule. writes w (pass, Admit request moment) _ refl refl refl)
+    (λ kept is. writes w (pass, Admit request moment) _ refl refl refl)
+    (λ is. writes w (pass, Admit request moment) _ refl refl refl)
 change w (pass, FetchEnd fetch outcome moment) = fetch_end_cases w pass (Changes w (pass, FetchEnd fetch outcome moment)) fetch outcome moment
     (writes w (pass, FetchEnd fetch outcome moment) _ refl refl refl)
     (λ begun is. writes w (pass, FetchEnd fetch outcome moment) _ refl refl refl)

@@ -389,7 +389,7 @@ file_law made = from_right (FileLaw made) (law_none made) (law_push made)
 
 -- ---- what is read
 
-log_answer : (w : World) (by number : ℕ) → reply_in w (by, LogFile number) ≡ log_reply w.made.origin number (file_of number w.controlling.files)
+log_answer : (w : World) (by number : ℕ) → reply_in w (by, LogFile number) ≡ log_reply w.made.heading number (file_of number w.controlling.files)
 unfolding reply_in
 log_answer w by number = refl
 
@@ -425,10 +425,10 @@ unfolding reply_in
 list_answer w by = refl
 
 -- a file that is found reads as its text
-read_kept : (made : Made) (file : CutFile) → log_reply made.origin file.number (kept_as file) ≡ reading made file
+read_kept : (made : Made) (file : CutFile) → log_reply made.heading file.number (kept_as file) ≡ reading made file
 read_kept made file = elim (cases_Bool file.dropped) [
-  | inl gone ↦ ap (log_reply made.origin file.number) (cond-true file.dropped None (Some (as_kept file)) gone) ∙ sym (cond-true file.dropped (reply.Unknown file.number) (reply.LogText (text_of made file)) gone)
-  | inr stays ↦ ap (log_reply made.origin file.number) (cond-false file.dropped None (Some (as_kept file)) stays) ∙ sym (cond-false file.dropped (reply.Unknown file.number) (reply.LogText (text_of made file)) stays)
+  | inl gone ↦ ap (log_reply made.heading file.number) (cond-true file.dropped None (Some (as_kept file)) gone) ∙ sym (cond-true file.dropped (reply.Unknown file.number) (reply.LogText (text_of made file)) gone)
+  | inr stays ↦ ap (log_reply made.heading file.number) (cond-false file.dropped None (Some (as_kept file)) stays) ∙ sym (cond-false file.dropped (reply.Unknown file.number) (reply.LogText (text_of made file)) stays)
 ]
 
 -- a file that is found is dropped
@@ -445,10 +445,10 @@ module _ (made : Made) (h : History) where
   abbrev the_files : List CutFile
   the_files = the_law.ledger.files
 
-  log_here : (by number : ℕ) → reply_to made h (by, LogFile number) ≡ log_reply made.origin number (file_of number (map as_kept (undropped the_files)))
+  log_here : (by number : ℕ) → reply_to made h (by, LogFile number) ≡ log_reply made.heading number (file_of number (map as_kept (undropped the_files)))
   log_here by number = log_answer (world_of made h) by number
-      ∙ ap (λ (m : Made). log_reply m.origin number (file_of number (world_of made h).controlling.files)) the_law.made_is
-      ∙ ap (λ k. log_reply made.origin number (file_of number k)) the_law.ledger.kept
+      ∙ ap (λ (m : Made). log_reply m.heading number (file_of number (world_of made h).controlling.files)) the_law.made_is
+      ∙ ap (λ k. log_reply made.heading number (file_of number k)) the_law.ledger.kept
 
   drop_here : (by number : ℕ) → reply_to made h (by, DropLog number) ≡ drop_reply number (file_of number (map as_kept (undropped the_files)))
   drop_here by number = drop_answer (world_of made h) by number ∙ ap (λ k. drop_reply number (file_of number k)) the_law.ledger.kept
@@ -460,7 +460,7 @@ module _ (made : Made) (h : History) where
     written = was.written;
     some = was.some;
     dropped = was.dropped;
-    reads = λ by. log_here by file.number ∙ ap (log_reply made.origin file.number) (found_numbered 1 the_files the_law.ledger.numbered place file is) ∙ read_kept made file;
+    reads = λ by. log_here by file.number ∙ ap (log_reply made.heading file.number) (found_numbered 1 the_files the_law.ledger.numbered place file is) ∙ read_kept made file;
     drops = λ by. drop_here by file.number ∙ ap (drop_reply file.number) (found_numbered 1 the_files the_law.ledger.numbered place file is) ∙ dropped_kept file;
   }
 
@@ -484,7 +484,7 @@ module _ (made : Made) (h : History) where
     listed = λ by. list_answer (world_of made h) by ∙ ap (λ k. reply.Numbers (map (λ (file : Filed). file.number) k)) the_law.ledger.kept
         ∙ ap reply.Numbers (map-map (λ (file : Filed). file.number) as_kept (undropped the_files));
     unknown = λ by number others. (
-      log_here by number ∙ ap (log_reply made.origin number) (none_of number the_files others),
+      log_here by number ∙ ap (log_reply made.heading number) (none_of number the_files others),
       drop_here by number ∙ ap (drop_reply number) (none_of number the_files others),
     );
   }

@@ -43,10 +43,15 @@ undropped files = filter (λ file. not file.dropped) files
 abbrev pub as_kept : CutFile → Filed
 as_kept file = record { number = file.number; moment = file.moment; rows = map (λ one. one.row) file.rows }
 
--- its text, under the origin of the node
+-- its text: that of its rows, under the host that the node claims, with the fields that it logs
 abbrev pub text_of : Made → CutFile → List ℕ
 text_of made file =
-    file_text (record { number = file.number; moment = file.moment; origin = made.origin }) (as_kept file).rows
+    file_text (record {
+      number = file.number;
+      moment = file.moment;
+      origin = made.heading.origin;
+      fields = made.heading.fields;
+    }) (as_kept file).rows
 
 -- what its number reads as
 abbrev pub reading : Made → CutFile → Reply

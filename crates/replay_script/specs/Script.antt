@@ -6,10 +6,11 @@ use Rattle.answer_summary.specs.Summary.{rows_of}
 use Rattle.answer_summary.specs.declared.summary.Row.{Row}
 use Rattle.std.specs.declared.option.Option.{Option}
 use Rattle.cdni_base.specs.Limits.{Bounds, default_limits}
+use Rattle.cdni_log.specs.FieldList.{default_fields}
 use Rattle.script_line.specs.Answer.{answer_line, refused_line}
 use Rattle.history.specs.Event.{History}
 use Rattle.history.specs.History.{reply_to}
-use Rattle.history.specs.World.{Made}
+use Rattle.history.specs.World.{Made, node_made}
 use Rattle.trigger_command.specs.declared.fault.CommandFault.{CommandFault}
 use Rattle.script_line.specs.Line.{Said, Scripted, Sets, Calls, Refuses, entry_of}
 use Rattle.node_core.specs.Node.{NodeView, Stands}
@@ -42,9 +43,10 @@ pub record Past : Type 0 where
   pub made : Made
   pub entries : History
 
--- a node of these limits, whose log files claim the host of the scripts
+-- a node of these limits, whose log files claim the host of the scripts, and have the fields that a node has where nothing
+-- else is asked for
 abbrev pub made_with : Bounds → Past
-made_with limits = record { made = record { limits = limits; origin = codes "dcdn.example" }; entries = [] }
+made_with limits = record { made = node_made limits (codes "dcdn.example") default_fields; entries = [] }
 
 -- the next line begins anew under its limits, or is one entry more; a command that is refused is no entry
 abbrev pub grown : Past → Said → Past

@@ -6,6 +6,7 @@ ghost use Rattle.node_core.specs.Node.{Stands};
 ghost use Rattle.replay_script.specs.Script.{fits, made_with, Answers, AnswersRefusal, SetsLimits, StepsTo};
 
 use cdni_base::{Limits, Text};
+use cdni_log::default_fields;
 use history::Call;
 use metadata_objects::MetaFault;
 use node_core::Node;
@@ -73,14 +74,16 @@ fn empty(answer: &mut Vec<u8>)
 }
 
 /// The node that answers a script under these limits, before its first call. Its log files claim the host
-/// `dcdn.example`.
+/// `dcdn.example`, and have the thirteen fields of RFC 7937, section 3.4.1, that are no header fields.
 ///
 /// # Errors
 /// Want of memory.
 pub fn scripted_node(alloc: Global, limits: &Limits) -> Result<Node, AllocError>
     ensures { IfOk result (λ node. Stands node (made_with limits.now).made []) }
 {
-    Node::new(alloc, limits, Text::of(alloc, ORIGIN)?)
+    let origin = Text::of(alloc, ORIGIN)?;
+    let fields = default_fields(alloc)?;
+    Node::new(alloc, limits, origin, fields)
 }
 
 // begins anew under these limits, where the line is the first one

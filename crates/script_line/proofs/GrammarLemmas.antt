@@ -31,7 +31,7 @@ use Rattle.location_acl.specs.declared.footprint.Place.{Place}
 use Rattle.metadata_objects.specs.Host.{host_index_of_text}
 use Rattle.hex.specs.Hex.{decode_of}
 use Rattle.cdni_base.specs.Limits.{Bounds, AreInRange}
-use Rattle.history.specs.Event.{Event, Admit, FetchEnd, Finish, ListLogs, Cancel, Lists}
+use Rattle.history.specs.Event.{Event, request_of, Admit, FetchEnd, Finish, ListLogs, Cancel, Lists}
 use Rattle.upstream_gate.specs.Got.{GotParts, IsGot, is_got_status}
 use Rattle.upstream_gate.specs.declared.got.TheConstants.{BODY_MAX}
 use Rattle.upstream_gate.specs.declared.outcome.Outcome.TheVariants as outcome
@@ -377,7 +377,7 @@ get_says moment text word behind said cut same is =
     let network = found_first (parts_at SPACE address.0.1) _ event.0 address.2 in
     let country = found_first (parts_at SPACE network.0.1) _ event.0 network.2 in
     let place = found_first (place_at address.0.0 network.0.0 country.0.0) _ event.0 country.2 in
-    let asked = found_map (λ asked. Admit asked place.0 moment) (asked_of method.0.0 protocol.0.0 country.0.1) event.0 place.2 in
+    let asked = found_map (λ asked. Admit (request_of asked place.0 []) moment) (asked_of method.0.0 protocol.0.0 country.0.1) event.0 place.2 in
     let m = word_says behind method.0.0 method.0.1 method.1 in
     let p = word_says method.0.1 protocol.0.0 protocol.0.1 protocol.1 in
     let a = word_says protocol.0.1 address.0.0 address.0.1 address.1 in
@@ -395,7 +395,7 @@ get_says moment text word behind said cut same is =
       words = (behind, first.0, first.1, (method.0.1, m.0, m.1, (protocol.0.1, p.0, p.1, (address.0.1, a.0, a.1, (network.0.1, n.0, n.1, (country.0.1, c.0, c.1, refl))))));
       asks = asked_says method.0.0 protocol.0.0 country.0.1 asked.0 asked.1;
       placed = place_says address.0.0 network.0.0 country.0.0 place.0 place.1;
-      call = said_plainly event.0 (Admit asked.0 place.0 moment) said event.2 asked.2;
+      call = said_plainly event.0 (Admit (request_of asked.0 place.0 []) moment) said event.2 asked.2;
     }
 
 says_get : (moment : ℕ) (text : List ℕ) (said : Noted) → SaysGet moment text said → (behind : List ℕ) × (text ≡ codes "get" ++ SPACE ∷ behind) × (option_map plain (get_of moment behind) ≡ Some said)
@@ -416,7 +416,7 @@ says_get moment text said is =
           (found_then (parts_at SPACE a.0) _ (is.network, n.0) _ (says_word a.0 is.network n.0 n.1 n.2)
           (found_then (parts_at SPACE n.0) _ (is.country, c.0) _ (says_word n.0 is.country c.0 c.1 c.2)
           (found_then (place_at is.address is.network is.country) _ is.place _ (says_place is.address is.network is.country is.place is.placed)
-          (ap (option_map (λ asked. Admit asked is.place moment)) (ap (asked_of is.method is.protocol) c.3 ∙ says_asked is.method is.protocol is.url is.asked is.asks))))))))
+          (ap (option_map (λ asked. Admit (request_of asked is.place []) moment)) (ap (asked_of is.method is.protocol) c.3 ∙ says_asked is.method is.protocol is.url is.asked is.asks))))))))
           ∙ ap Some (sym is.call),
     )
 

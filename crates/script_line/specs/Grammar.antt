@@ -29,7 +29,7 @@ use Rattle.trigger_status.specs.declared.job.Filter.{Filter}
 use Rattle.trigger_status.specs.declared.job.Filter.TheVariants as filter
 use Rattle.cdni_base.specs.Limits.{Bounds, AreInRange}
 use Rattle.cdni_base.specs.declared.type_name.TheConstants.{TYPE_NAME_MAX}
-use Rattle.history.specs.Event.{Event, RefreshBegin, RefreshEnd, Admit, FetchEnd, Finish, Cut, LogFile, ListLogs, DropLog, Command, Advance, Cancel, Delete, ReadStatus, Lists}
+use Rattle.history.specs.Event.{Event, request_of, RefreshBegin, RefreshEnd, Admit, FetchEnd, Finish, Cut, LogFile, ListLogs, DropLog, Command, Advance, Cancel, Delete, ReadStatus, Lists}
 use Rattle.trigger_command.specs.Reading.{Judged, command_of}
 use Rattle.trigger_command.specs.declared.command.Act.{Act}
 use Rattle.trigger_command.specs.declared.command.Act.TheVariants as act
@@ -124,7 +124,7 @@ get_of moment text = parts_at SPACE text >>= λ method. parts_at SPACE method.1
     >>= λ protocol. parts_at SPACE protocol.1 >>= λ address. parts_at SPACE address.1
     >>= λ network. parts_at SPACE network.1 >>= λ country.
     place_at address.0 network.0 country.0
-    >>= λ place. option_map (λ asked. Admit asked place moment) (asked_of method.0 protocol.0 country.1)
+    >>= λ place. option_map (λ asked. Admit (request_of asked place []) moment) (asked_of method.0 protocol.0 country.1)
 
 -- ---- the other lines
 
@@ -357,7 +357,7 @@ pub record SaysGet (moment : ℕ) (text : List ℕ) (said : Noted) : Type 0 wher
   pub words : IsWords (codes "get" ∷ method ∷ protocol ∷ address ∷ network ∷ country ∷ []) url text
   pub asks : IsAsked method protocol url asked
   pub placed : IsPlace address network country place
-  pub call : said ≡ plain (Admit asked place moment)
+  pub call : said ≡ plain (Admit (request_of asked place []) moment)
 
 -- a content type of 1 to 127 bytes from `!` to `~`, or `-` for the empty one
 abbrev pub IsKind : List ℕ → List ℕ → Type 0

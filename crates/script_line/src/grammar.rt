@@ -21,6 +21,7 @@ use cdni_base::{
     Asked, Body, Ignored, Key, Limits, Moment, Protocol, TYPE_NAME_MAX, Target, Text, TypeName,
     url_key,
 };
+use cdni_log::ExtraList;
 use hex::FromHexError;
 use history::Call;
 use listing::{Listing, cut_at, read_decimal};
@@ -471,6 +472,7 @@ fn read_get(
         call: Call::Admit {
             asked,
             place,
+            extra: ExtraList::new(alloc),
             moment,
         },
         note: None,

@@ -193,7 +193,7 @@ module _ (w : World) (id : ℕ) (u : Trigger) where
   one_made pass spec moment number false same None found is = absurd (none-some u is)
 
   pub comes : (e : Entry) → Found e (reply_in w e)
-  comes (pass, Admit asked place moment) = Stays
+  comes (pass, Admit request moment) = Stays
   comes (pass, FetchEnd fetch outcome moment) = fetch_end_cases w pass (Found (pass, FetchEnd fetch outcome moment)) fetch outcome moment Stays
       (λ begun there is. chosen id ts u (Comes w (pass, FetchEnd fetch outcome moment) (reply.Ended (is_some (gained_of w outcome begun))) id u) Stays (λ t. awaits_fetch fetch t.awaited) (fetched (is_fetched outcome)) (trigger_of id ts) refl
       (sym (fetch_found id fetch (is_fetched outcome) ts) ∙ is) (λ t found awaits now. FetchEnds t fetch outcome moment (is_some (gained_of w outcome begun)) found refl refl awaits (sym now)))

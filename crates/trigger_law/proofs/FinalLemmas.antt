@@ -227,7 +227,7 @@ kept_by_delete w pass id other differs (t, found, last) = (t, without id other d
 
 -- each entry keeps it, or deletes it
 kept_by : (w : World) (pass : ℕ) (event : Event) (id : ℕ) → IsFinalIn w id → Kept w id (pass, event) ⊎ (deletes id (pass, event) ≡ true)
-kept_by w pass (Admit asked place moment) id among = inl among
+kept_by w pass (Admit request moment) id among = inl among
 kept_by w pass (FetchEnd fetch outcome moment) id among = inl (kept_by_fetch w pass id fetch outcome moment among)
 kept_by w pass (Finish delivery status total entity moment) id among = inl among
 kept_by w pass (RefreshBegin moment) id among = inl among

@@ -70,7 +70,7 @@ others_left id other differs (x ∷ xs) = one_left id other x (left_without othe
 
 -- a number is given with each command that makes a trigger
 next_created : (w : World) (e : Entry) → IsNext w.counts.created (created_trigger (reply_in w e))
-next_created w (pass, Admit asked place moment) = admit_cases w pass asked place moment (λ r. IsNext w.counts.created (created_trigger r)) (λ n. inl refl) (λ rule. inl refl) (λ kept is. inl refl) (λ is. inl refl)
+next_created w (pass, Admit request moment) = admit_cases w pass request moment (λ r. IsNext w.counts.created (created_trigger r)) (λ n. inl refl) (λ rule. inl refl) (λ kept is. inl refl) (λ is. inl refl)
 next_created w (pass, FetchEnd fetch outcome moment) = fetch_end_cases w pass (λ r. IsNext w.counts.created (created_trigger r)) fetch outcome moment (inl refl) (λ begun is. inl refl)
 next_created w (pass, Finish delivery status total entity moment) = finish_cases w pass (λ r. IsNext w.counts.created (created_trigger r)) delivery status total entity moment (inl refl) (inl refl)
 next_created w (pass, RefreshBegin moment) = begin_cases w pass (λ r. IsNext w.counts.created (created_trigger r)) moment (λ n. inl refl) (λ n. inl refl) (inl refl)
@@ -128,7 +128,7 @@ no_more : (id : ℕ) (triggers : List Trigger) (x : Trigger) → is_trigger id x
 no_more id triggers x other none = find-append (is_trigger id) triggers (x ∷ []) ∙ ap (λ (r : Option Trigger). option_or r (trigger_of id (x ∷ []))) none ∙ ap (λ (b : Bool). cond b (Some x) None) other
 
 none_left : (w : World) (e : Entry) (id : ℕ) → trigger_of id w.controlling.triggers ≡ None → left_of w (reply_in w e) < id → NoneLeft w id e (reply_in w e)
-none_left w (pass, Admit asked place moment) id none low = none
+none_left w (pass, Admit request moment) id none low = none
 none_left w (pass, FetchEnd fetch outcome moment) id none low = fetch_end_cases w pass (NoneLeft w id (pass, FetchEnd fetch outcome moment)) fetch outcome moment none (λ begun is. no_fetch id fetch (is_fetched outcome) w.controlling.triggers none)
 none_left w (pass, Finish delivery status total entity moment) id none low = none
 none_left w (pass, RefreshBegin moment) id none low = none

@@ -473,7 +473,7 @@ delete_holds made h id pass other holds = elim (cases_Bool (other == id)) [
 ]
 
 holds_after : (made : Made) (h : History) (id pass : ℕ) (event : Event) → Holds made h id (trigger_of id (world_of made h).controlling.triggers) → HoldsAfter made h id (pass, event)
-holds_after made h id pass (Admit asked place moment) holds = same_holds made h id (pass, Admit asked place moment) (λ number by. (refl, refl)) (trigger_of id (world_of made h).controlling.triggers) holds
+holds_after made h id pass (Admit request moment) holds = same_holds made h id (pass, Admit request moment) (λ number by. (refl, refl)) (trigger_of id (world_of made h).controlling.triggers) holds
 holds_after made h id pass (FetchEnd fetch outcome moment) holds = fetch_end_holds made h id pass fetch outcome moment holds
 holds_after made h id pass (Finish delivery status total entity moment) holds = same_holds made h id (pass, Finish delivery status total entity moment) (λ number by. (refl, refl)) (trigger_of id (world_of made h).controlling.triggers) holds
 holds_after made h id pass (RefreshBegin moment) holds = same_holds made h id (pass, RefreshBegin moment) (λ number by. (refl, refl)) (trigger_of id (world_of made h).controlling.triggers) holds

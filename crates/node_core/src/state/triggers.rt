@@ -34,7 +34,7 @@ impl State {
         ensures told { (made : Made) (h : History) (pass : ℕ) → Follows self.old.seen made h
             → IfOk result (λ r. Says made h (pass, Command spec moment) r self.new.seen) }
         ensures kind { IfOk result (λ r. answers_command r ≡ true) }
-        ensures origin { self.new.seen.origin ≡ self.old.seen.origin }
+        ensures heading { self.new.seen.heading ≡ self.old.seen.heading }
         ensures same { self.new.seen.edge ≡ self.old.seen.edge }
         ensures held { self.new.held ≡ self.old.held }
         ensures err { OnErr result (self.new ≡ self.old) }
@@ -66,7 +66,7 @@ impl State {
         ensures told { (made : Made) (h : History) → Follows self.old.seen made h
             → IfOk result (λ r. Says made h (pass, Advance id moment) r self.new.seen) }
         ensures kind { IfOk result (λ r. answers_advance r ≡ true) }
-        ensures origin { self.new.seen.origin ≡ self.old.seen.origin }
+        ensures heading { self.new.seen.heading ≡ self.old.seen.heading }
         ensures places { IfOk result (λ r. open_count self.new.seen.edge ≤ open_count self.old.seen.edge + begun_count r) }
         ensures held { IsPartOfOrKept self.new.held self.old.held self.new.seen.edge.kept }
         ensures swept { IfOk result (λ r. completes_purge self.old.seen.control.triggers.triggers (Advance id moment) r ≡ true
@@ -97,7 +97,7 @@ impl State {
         ensures told { (made : Made) (h : History) → Follows self.old.seen made h
             → IfOk result (λ r. Says made h (pass, Advance id moment) r self.new.seen) }
         ensures kind { IfOk result (λ r. answers_advance r ≡ true) }
-        ensures origin { self.new.seen.origin ≡ self.old.seen.origin }
+        ensures heading { self.new.seen.heading ≡ self.old.seen.heading }
         ensures places { IfOk result (λ r. open_count self.new.seen.edge ≤ open_count self.old.seen.edge + begun_count r) }
         ensures held { self.new.held ≡ self.old.held }
         ensures swept { IfOk result (λ r. completes_purge self.old.seen.control.triggers.triggers (Advance id moment) r ≡ true
@@ -125,7 +125,7 @@ impl State {
         ensures told { (made : Made) (h : History) → Follows self.old.seen made h
             → IfOk result (λ r. Says made h (pass, Advance id moment) r self.new.seen) }
         ensures kind { IfOk result (λ r. answers_advance r ≡ true) }
-        ensures origin { self.new.seen.origin ≡ self.old.seen.origin }
+        ensures heading { self.new.seen.heading ≡ self.old.seen.heading }
         ensures places { IfOk result (λ r. open_count self.new.seen.edge ≤ open_count self.old.seen.edge + begun_count r) }
         ensures held { self.new.held ≡ self.old.held }
         ensures swept { IfOk result (λ r. completes_purge self.old.seen.control.triggers.triggers (Advance id moment) r ≡ true
@@ -160,7 +160,7 @@ impl State {
         ensures told { (made : Made) (h : History) → Follows self.old.seen made h
             → IfOk result (λ r. Says made h (pass, Advance id moment) r self.new.seen) }
         ensures kind { IfOk result (λ r. answers_advance r ≡ true) }
-        ensures origin { self.new.seen.origin ≡ self.old.seen.origin }
+        ensures heading { self.new.seen.heading ≡ self.old.seen.heading }
         ensures places { IfOk result (λ r. open_count self.new.seen.edge ≤ open_count self.old.seen.edge + begun_count r) }
         ensures held { self.new.held ≡ self.old.held }
         ensures swept { IfOk result (λ r. completes_purge self.old.seen.control.triggers.triggers (Advance id moment) r ≡ true
@@ -211,7 +211,7 @@ impl State {
         ensures told { (made : Made) (h : History) → Follows self.old.seen made h
             → Says made h (pass, Advance id moment) result self.new.seen }
         ensures kind { answers_advance result ≡ true }
-        ensures origin { self.new.seen.origin ≡ self.old.seen.origin }
+        ensures heading { self.new.seen.heading ≡ self.old.seen.heading }
         ensures same { self.new.seen.edge ≡ self.old.seen.edge }
         ensures held { IsPartOfOrKept self.new.held self.old.held self.new.seen.edge.kept }
         ensures swept { is_purge id self.old.seen.control.triggers.triggers ≡ true → self.new.held ≡ self.new.seen.edge.kept }
@@ -242,7 +242,7 @@ impl State {
         ensures told { (made : Made) (h : History) (pass : ℕ) → Follows self.old.seen made h
             → IfOk result (λ r. Says made h (pass, Cancel ids.now moment) r self.new.seen) }
         ensures kind { IfOk result (λ r. answers_cancel r ≡ true) }
-        ensures origin { self.new.seen.origin ≡ self.old.seen.origin }
+        ensures heading { self.new.seen.heading ≡ self.old.seen.heading }
         ensures same { self.new.seen.edge ≡ self.old.seen.edge }
         ensures held { self.new.held ≡ self.old.held }
         ensures err { OnErr result (self.new ≡ self.old) }
@@ -256,7 +256,7 @@ impl State {
         ensures told { (made : Made) (h : History) (pass : ℕ) → Follows self.old.seen made h
             → Says made h (pass, Delete id) result self.new.seen }
         ensures kind { answers_delete result ≡ true }
-        ensures origin { self.new.seen.origin ≡ self.old.seen.origin }
+        ensures heading { self.new.seen.heading ≡ self.old.seen.heading }
         ensures same { self.new.seen.edge ≡ self.old.seen.edge }
         ensures held { self.new.held ≡ self.old.held }
     {

@@ -14,13 +14,13 @@ returns c = λ made h pass event answer is.
     let told = said_of made h pass event answer is in
     record {
       admission = record {
-        denied = λ asked place moment delivery rule this so. c.a_denial_names_the_first_rule_that_forbids.ensures.denied made h pass asked place moment delivery rule (told (Admit asked place moment) (reply.Denied delivery rule) this so);
-        admitted = λ asked place moment rule this so. c.a_denial_names_the_first_rule_that_forbids.ensures.admitted made h pass asked place moment
-            (subst (λ r. IsTrue (is_admitted r)) (sym (told (Admit asked place moment) answer this refl)) so) rule;
-        hit = λ asked place moment delivery fetch kind body this so. c.a_hit_gives_what_one_fetch_brought.ensures made h pass asked place moment delivery fetch kind body (told (Admit asked place moment) (reply.Hit delivery fetch kind body) this so);
-        miss = λ asked place moment delivery fetch plan this so. c.a_miss_begins_its_own_fetch.ensures made h pass asked place moment delivery fetch plan (told (Admit asked place moment) (reply.Miss delivery fetch plan) this so);
-        metadata = λ asked place moment this uses. c.an_admission_uses_metadata_that_no_start_has_hit.ensures made h pass asked place moment
-            (subst (λ r. IsTrue (uses_metadata r)) (sym (told (Admit asked place moment) answer this refl)) uses);
+        denied = λ request moment delivery rule this so. c.a_denial_names_the_first_rule_that_forbids.ensures.denied made h pass request moment delivery rule (told (Admit request moment) (reply.Denied delivery rule) this so);
+        admitted = λ request moment rule this so. c.a_denial_names_the_first_rule_that_forbids.ensures.admitted made h pass request moment
+            (subst (λ r. IsTrue (is_admitted r)) (sym (told (Admit request moment) answer this refl)) so) rule;
+        hit = λ request moment delivery fetch kind body this so. c.a_hit_gives_what_one_fetch_brought.ensures made h pass request moment delivery fetch kind body (told (Admit request moment) (reply.Hit delivery fetch kind body) this so);
+        miss = λ request moment delivery fetch plan this so. c.a_miss_begins_its_own_fetch.ensures made h pass request moment delivery fetch plan (told (Admit request moment) (reply.Miss delivery fetch plan) this so);
+        metadata = λ request moment this uses. c.an_admission_uses_metadata_that_no_start_has_hit.ensures made h pass request moment
+            (subst (λ r. IsTrue (uses_metadata r)) (sym (told (Admit request moment) answer this refl)) uses);
       };
       refresh = record {
         early = λ moment next this so. c.a_refresh_is_due_where_no_fresh_metadata_is_installed.ensures.early made h pass moment next (told (RefreshBegin moment) (reply.NotDue next) this so);

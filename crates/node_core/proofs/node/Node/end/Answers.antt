@@ -23,6 +23,6 @@ invariant_of-self-2 c =
 pub returns-clause-told : goal.returns-clause-told
 returns-clause-told c =
     let i = c.self.inside in
-    rw (← c.self.view_is) (entered (record { limits = i.limits; origin = i.state.seen.origin }) (record { limits = i.limits; origin = c.end-reply.new.self.seen.origin }) i.state c.end-reply.new.self i.journal c.take_place.new.journal
+    rw (← c.self.view_is) (entered (record { limits = i.limits; heading = i.state.seen.heading }) (record { limits = i.limits; heading = c.end-reply.new.self.seen.heading }) i.state c.end-reply.new.self i.journal c.take_place.new.journal
     c.push_reserved.new.self c.args.pass (event_of c.args.call) c.end-reply.result (record { pass = c.args.pass; call = c.stripped-kept.result; need = c.need_of.result }) c.end-reply.ensures.told c.end-reply.ensures.held (λ so. absurd (ends_no_purge _ (event_of c.args.call) _ c.requires so))
     c.take_place.ensures.stored c.take_place.ensures.retired c.push_reserved.ensures (ap (λ e. (c.args.pass, e)) c.stripped-kept.ensures) c.need_of.ensures)

@@ -39,3 +39,6 @@ returns-in_err-clone-in-Admit-clause-held c = part_or_same _ _
 
 pub returns-in_err-clone-in-Command-clause-held : goal.returns-in_err-clone-in-Command-clause-held
 returns-in_err-clone-in-Command-clause-held c = part_or_same _ _
+
+pub returns-in_err-extra_of-in-Admit-clause-held : goal.returns-in_err-extra_of-in-Admit-clause-held
+returns-in_err-extra_of-in-Admit-clause-held c = part_or_same _ _

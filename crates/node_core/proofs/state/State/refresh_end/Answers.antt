@@ -7,7 +7,7 @@ use Rattle.node_core.proofs.StateLemmas.{refresh_end_told, refresh_told_sound, s
 use Rattle.node_core.proofs.state.State.refresh_end.Goals as goal
 
 pub returns-clause-told : goal.returns-clause-told
-returns-clause-told c = λ made h moment s. refresh_end_told made h c.self.inside.edge.seen _ c.self.inside.control _ c.self.inside.origin c.self.inside.opened (rw (← c.self.view_is) at s) c.args.pass c.args.refresh _ moment _ _
+returns-clause-told c = λ made h moment s. refresh_end_told made h c.self.inside.edge.seen _ c.self.inside.control _ c.self.inside.heading c.self.inside.opened (rw (← c.self.view_is) at s) c.args.pass c.args.refresh _ moment _ _
     c.refresh_end-ended.ensures.reply c.refresh_end-ended.ensures.after c.reply_of_refresh.ensures c.end_refresh.ensures
 
 pub invariant_of-self : goal.invariant_of-self
@@ -19,5 +19,5 @@ invariant_of-self c =
     _ _ _ c.end_refresh.ensures
 
 pub returns-clause-ends : goal.returns-clause-ends
-returns-clause-ends c = rw (← c.self.view_is) (refresh_ends c.self.inside.edge.seen _ c.self.inside.control _ c.self.inside.origin c.self.inside.opened c.args.pass c.args.refresh _ _ _
+returns-clause-ends c = rw (← c.self.view_is) (refresh_ends c.self.inside.edge.seen _ c.self.inside.control _ c.self.inside.heading c.self.inside.opened c.args.pass c.args.refresh _ _ _
     c.refresh_end-ended.ensures.reply c.refresh_end-ended.ensures.after c.reply_of_refresh.ensures c.end_refresh.ensures)

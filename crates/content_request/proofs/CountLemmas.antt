@@ -2,7 +2,7 @@
 use Rattle.std.proofs.Common.{◌≡◌, ◌≢◌, ◌≤◌, ℕ, false, List, [], ◌∷◌, ◌++◌, length, arith, refl, None}
 use Rattle.cdni_base.specs.declared.asked.Asked.{Asked}
 use Rattle.edge_base.specs.Causes.{Rose}
-use Rattle.history.specs.Event.{Admit, FetchEnd, RefreshBegin, RefreshEnd}
+use Rattle.history.specs.Event.{Admit, FetchEnd, RefreshBegin, RefreshEnd, Request, request_of}
 use Rattle.history.specs.declared.reply.Reply.{Reply}
 use Rattle.history.specs.declared.reply.Reply.TheVariants as reply
 use Rattle.location_acl.specs.declared.footprint.Place.{Place}
@@ -51,23 +51,23 @@ not_failed (outcome.Cut taken) may is = absurd may
 later_counts : (before now : ℕ) (calls : List Called) → before ≤ now → CountsFaults before before calls → CountsFaults before now calls
 later_counts before now calls later counts = counts_wider before before before now calls (omega arith) later counts
 
-course_counts : (before now : ℕ) (asked : Asked) (place : Place) (moment : ℕ) (answer : Answer) (taken : ℕ) (course : Course) → before ≤ now → IsPlanned asked.target course → HasGateFault before now course
-    → CountsFaults before now (course_calls (Admit asked place moment) answer taken course)
-course_counts before now asked place moment answer taken NoRoom later planned fault = later_counts before now [] later (counts_none before)
-course_counts before now asked place moment answer taken (Crowded count) later planned fault = later_counts before now [] later (counts_none before)
-course_counts before now asked place moment answer taken (Full count) later planned fault = counts_other before now (Admit asked place moment, reply.Full count) later refl
-course_counts before now asked place moment answer taken (Barred delivery rule at line) later planned fault =
-    later_counts before now _ later (two before (Admit asked place moment, reply.Denied delivery rule) (finished delivery answer taken at line) refl refl)
-course_counts before now asked place moment answer taken (Kept delivery fetch kind body at line) later planned fault =
-    later_counts before now _ later (two before (Admit asked place moment, reply.Hit delivery fetch kind body) (finished delivery answer taken at line) refl refl)
-course_counts before now asked place moment answer taken (Brought delivery fetch plan made how ended closed at line) later planned fault =
-    three before now (Admit asked place moment, reply.Miss delivery fetch plan) (finished delivery answer taken at line) fetch how (capped ended) closed later refl refl fault
-course_counts before now asked place moment answer taken (Short delivery fetch plan made how ended closed at line) later planned fault =
-    three before now (Admit asked place moment, reply.Miss delivery fetch plan) (finished delivery answer taken at line) fetch how (capped ended) closed later refl refl (λ is. absurd (not_failed how planned.1 is))
+course_counts : (before now : ℕ) (request : Request) (moment : ℕ) (answer : Answer) (taken : ℕ) (course : Course) → before ≤ now → IsPlanned request.asked.target course → HasGateFault before now course
+    → CountsFaults before now (course_calls (Admit request moment) answer taken course)
+course_counts before now request moment answer taken NoRoom later planned fault = later_counts before now [] later (counts_none before)
+course_counts before now request moment answer taken (Crowded count) later planned fault = later_counts before now [] later (counts_none before)
+course_counts before now request moment answer taken (Full count) later planned fault = counts_other before now (Admit request moment, reply.Full count) later refl
+course_counts before now request moment answer taken (Barred delivery rule at line) later planned fault =
+    later_counts before now _ later (two before (Admit request moment, reply.Denied delivery rule) (finished delivery answer taken at line) refl refl)
+course_counts before now request moment answer taken (Kept delivery fetch kind body at line) later planned fault =
+    later_counts before now _ later (two before (Admit request moment, reply.Hit delivery fetch kind body) (finished delivery answer taken at line) refl refl)
+course_counts before now request moment answer taken (Brought delivery fetch plan made how ended closed at line) later planned fault =
+    three before now (Admit request moment, reply.Miss delivery fetch plan) (finished delivery answer taken at line) fetch how (capped ended) closed later refl refl fault
+course_counts before now request moment answer taken (Short delivery fetch plan made how ended closed at line) later planned fault =
+    three before now (Admit request moment, reply.Miss delivery fetch plan) (finished delivery answer taken at line) fetch how (capped ended) closed later refl refl (λ is. absurd (not_failed how planned.1 is))
 
 -- all calls of a request for content
 pub content_counts : (before now : ℕ) (root : Target) (asked : Asked) (place : Place) (manner : Manner) (d : Doing) (after : Next) (content : Content root asked place manner d after) → before ≤ now → HasGateFault before now content.course → CountsFaults before now d.calls
 content_counts before now root asked place manner d after content later fault =
     counts_as before now _ d.calls content.calls
     (counts_then before before now (refresh_calls manner.moment content.how) _ (refreshing_counts before manner.moment content.how)
-    (course_counts before now asked place manner.moment content.answer (length d.written) content.course later content.planned fault))
+    (course_counts before now (request_of asked place manner.extra) manner.moment content.answer (length d.written) content.course later content.planned fault))

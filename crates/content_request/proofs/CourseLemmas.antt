@@ -5,7 +5,7 @@ use Rattle.std.specs.declared.option.Option.{Option}
 use Rattle.cdni_base.specs.declared.asked.Asked.{Asked}
 use Rattle.edge_base.specs.Clock.{Grows}
 use Rattle.history.specs.After.{begun_delivery, begun_fetch}
-use Rattle.history.specs.Event.{Event, History, Admit, FetchEnd, Finish}
+use Rattle.history.specs.Event.{Event, History, Admit, FetchEnd, Finish, request_of}
 use Rattle.history.specs.Laws.{ends_delivery, ends_fetch}
 use Rattle.history.specs.declared.reply.Reply.{Reply}
 use Rattle.history.specs.declared.reply.Reply.TheVariants as reply
@@ -107,12 +107,12 @@ Delivered who a c g g' t t' k k' before now asked place manner after =
 -- the admission opened a delivery, which was answered at once
 answered_at_once : (who : Who) (a b c : History → Type 0) (g g' : Option (List ℕ)) (t : Option (List Exchange)) (Is : Answer → Type 0) (k k' : Option (List ℕ)) (sent : Sent) (s : Says Is k k' sent) (before now : ℕ) (asked : Asked) (place : Place) (manner : Manner) (delivery at : ℕ) (line r : Reply) (course : Course) (after : Next)
     → after ≡ next_of manner.leaves false sent.fault → Follows refreshed.Ready course → IsPlanned asked.target course → IsAnswerOf manner course s.answer → HasGateFault before now course → course_moments course ≡ at ∷ [] → course_exchanges course ≡ []
-    → course_calls (Admit asked place manner.moment) s.answer (length s.written) course ≡ (Admit asked place manner.moment, r) ∷ finished delivery s.answer (length s.written) at line ∷ [] → is_short course ≡ false
-    → begun_delivery r ≡ Some delivery → Makes who Any a b ((Admit asked place manner.moment, r) ∷ [])
+    → course_calls (Admit (request_of asked place manner.extra) manner.moment) s.answer (length s.written) course ≡ (Admit (request_of asked place manner.extra) manner.moment, r) ∷ finished delivery s.answer (length s.written) at line ∷ [] → is_short course ≡ false
+    → begun_delivery r ≡ Some delivery → Makes who Any a b ((Admit (request_of asked place manner.extra) manner.moment, r) ∷ [])
     → Grows g g' (at ∷ []) → (v : Who) → v ≡ who → Makes v (OpenDelivery v delivery) b c ((Finish delivery sent.status sent.taken sent.entity (capped at), line) ∷ [])
     → Delivered who a c g g' t t k k' before now asked place manner after
 answered_at_once who a b c g g' t Is k k' sent s before now asked place manner delivery at line r course after goes admits planned answered caused moments exchanges calls short opens admitted grows v same makes =
-    let first : Called = (Admit asked place manner.moment, r) in
+    let first : Called = (Admit (request_of asked place manner.extra) manner.moment, r) in
     let one : Doing = record nothing { calls = first ∷ [] } in
     let two = finishing Is k k' sent s delivery at line in (
       then one two,
@@ -136,14 +136,14 @@ answered_at_once who a b c g g' t Is k k' sent s before now asked place manner d
     )
 
 pub barred : (who : Who) (a b c : History → Type 0) (g g' : Option (List ℕ)) (t : Option (List Exchange)) (k k' : Option (List ℕ)) (sent : Sent) (before now : ℕ) (asked : Asked) (place : Place) (manner : Manner) (delivery : ℕ) (rule : _) (at : ℕ) (line : Reply) (after : Next)
-    → Says (IsShown (denied_shown manner rule)) k k' sent → after ≡ next_of manner.leaves false sent.fault → Makes who Any a b ((Admit asked place manner.moment, reply.Denied delivery rule) ∷ [])
+    → Says (IsShown (denied_shown manner rule)) k k' sent → after ≡ next_of manner.leaves false sent.fault → Makes who Any a b ((Admit (request_of asked place manner.extra) manner.moment, reply.Denied delivery rule) ∷ [])
     → Grows g g' (at ∷ []) → (v : Who) → v ≡ who → Makes v (OpenDelivery v delivery) b c ((Finish delivery sent.status sent.taken sent.entity (capped at), line) ∷ [])
     → Delivered who a c g g' t t k k' before now asked place manner after
 barred who a b c g g' t k k' sent before now asked place manner delivery rule at line after s goes admitted grows v same makes =
     answered_at_once who a b c g g' t _ k k' sent s before now asked place manner delivery at line (reply.Denied delivery rule) (Barred delivery rule at line) after goes tt tt s.is tt refl refl refl refl refl admitted grows v same makes
 
 pub kept : (who : Who) (a b c : History → Type 0) (g g' : Option (List ℕ)) (t : Option (List Exchange)) (k k' : Option (List ℕ)) (sent : Sent) (before now : ℕ) (asked : Asked) (place : Place) (manner : Manner) (delivery fetch : ℕ) (kind body : List ℕ) (at : ℕ) (line : Reply) (after : Next)
-    → Says (IsShown (content_shown manner kind body)) k k' sent → after ≡ next_of manner.leaves false sent.fault → Makes who Any a b ((Admit asked place manner.moment, reply.Hit delivery fetch kind body) ∷ [])
+    → Says (IsShown (content_shown manner kind body)) k k' sent → after ≡ next_of manner.leaves false sent.fault → Makes who Any a b ((Admit (request_of asked place manner.extra) manner.moment, reply.Hit delivery fetch kind body) ∷ [])
     → Grows g g' (at ∷ []) → (v : Who) → v ≡ who → Makes v (OpenDelivery v delivery) b c ((Finish delivery sent.status sent.taken sent.entity (capped at), line) ∷ [])
     → Delivered who a c g g' t t k k' before now asked place manner after
 kept who a b c g g' t k k' sent before now asked place manner delivery fetch kind body at line after s goes admitted grows v same makes =
@@ -152,7 +152,7 @@ kept who a b c g g' t k k' sent before now asked place manner delivery fetch kin
 -- no delivery was opened
 unopened : (who : Who) (a b : History → Type 0) (g : Option (List ℕ)) (t : Option (List Exchange)) (Is : Answer → Type 0) (k k' : Option (List ℕ)) (sent : Sent) (s : Says Is k k' sent) (before now : ℕ) (asked : Asked) (place : Place) (manner : Manner) (course : Course) (calls : List Called) (after : Next)
     → Follows refreshed.Ready course → IsPlanned asked.target course → IsAnswerOf manner course s.answer → HasGateFault before now course → course_moments course ≡ [] → course_exchanges course ≡ []
-    → course_calls (Admit asked place manner.moment) s.answer (length s.written) course ≡ calls → after ≡ next_of manner.leaves (is_short course) sent.fault → Makes who Any a b calls
+    → course_calls (Admit (request_of asked place manner.extra) manner.moment) s.answer (length s.written) course ≡ calls → after ≡ next_of manner.leaves (is_short course) sent.fault → Makes who Any a b calls
     → Delivered who a b g g t t k k' before now asked place manner after
 unopened who a b g t Is k k' sent s before now asked place manner course calls after admits planned answered caused moments exchanges same goes makes = (
   record { bytes = []; moments = []; exchanges = []; written = s.written; calls = calls },
@@ -175,10 +175,10 @@ unopened who a b g t Is k k' sent s before now asked place manner course calls a
 )
 
 pub full : (who : Who) (a b : History → Type 0) (g : Option (List ℕ)) (t : Option (List Exchange)) (k k' : Option (List ℕ)) (sent : Sent) (before now : ℕ) (asked : Asked) (place : Place) (manner : Manner) (count : ℕ) (after : Next)
-    → Says (IsShown (full_shown manner count)) k k' sent → after ≡ next_of manner.leaves false sent.fault → Makes who Any a b ((Admit asked place manner.moment, reply.Full count) ∷ [])
+    → Says (IsShown (full_shown manner count)) k k' sent → after ≡ next_of manner.leaves false sent.fault → Makes who Any a b ((Admit (request_of asked place manner.extra) manner.moment, reply.Full count) ∷ [])
     → Delivered who a b g g t t k k' before now asked place manner after
 full who a b g t k k' sent before now asked place manner count after s goes makes =
-    unopened who a b g t _ k k' sent s before now asked place manner (Full count) ((Admit asked place manner.moment, reply.Full count) ∷ []) after tt tt s.is tt refl refl refl goes makes
+    unopened who a b g t _ k k' sent s before now asked place manner (Full count) ((Admit (request_of asked place manner.extra) manner.moment, reply.Full count) ∷ []) after tt tt s.is tt refl refl refl goes makes
 
 -- want of memory decides before the request does
 short_goes : (leaves fault : Bool) → next_of false true fault ≡ next_of leaves true fault
@@ -201,12 +201,12 @@ course_of manner delivery fetch plan made how false ended closed at line = Broug
 missed_with : (who : Who) (a b c : History → Type 0) (g g' : Option (List ℕ)) (t t' : Option (List Exchange)) (k k' : Option (List ℕ)) (before now : ℕ) (asked : Asked) (place : Place) (manner : Manner) (delivery fetch : ℕ) (plan : List Endpoint) (made : List Exchange) (how : Outcome) (d : Doing) (after : Next) (course : Course)
     → (f : DeliversFetched manner delivery fetch how d after)
     → Follows refreshed.Ready course → IsPlanned asked.target course → IsAnswerOf manner course f.answer → HasGateFault before now course → course_moments course ≡ f.ended ∷ f.at ∷ [] → course_exchanges course ≡ made
-    → ((taken : ℕ) → course_calls (Admit asked place manner.moment) f.answer taken course ≡ (Admit asked place manner.moment, reply.Miss delivery fetch plan) ∷ (FetchEnd fetch how (capped f.ended), f.closed) ∷ finished delivery f.answer taken f.at f.line ∷ [])
-    → is_short course ≡ f.short → Makes who Any a b ((Admit asked place manner.moment, reply.Miss delivery fetch plan) ∷ []) → Grows t t' made
+    → ((taken : ℕ) → course_calls (Admit (request_of asked place manner.extra) manner.moment) f.answer taken course ≡ (Admit (request_of asked place manner.extra) manner.moment, reply.Miss delivery fetch plan) ∷ (FetchEnd fetch how (capped f.ended), f.closed) ∷ finished delivery f.answer taken f.at f.line ∷ [])
+    → is_short course ≡ f.short → Makes who Any a b ((Admit (request_of asked place manner.extra) manner.moment, reply.Miss delivery fetch plan) ∷ []) → Grows t t' made
     → (v : Who) → v ≡ who → Does v (BothOpen v delivery fetch) b c g g' None None k k' d
     → Delivered who a c g g' t t' k k' before now asked place manner after
 missed_with who a b c g g' t t' k k' before now asked place manner delivery fetch plan made how d after course f admits planned answered caused moments exchanges calls short admitted asks v same does =
-    let first : Called = (Admit asked place manner.moment, reply.Miss delivery fetch plan) in
+    let first : Called = (Admit (request_of asked place manner.extra) manner.moment, reply.Miss delivery fetch plan) in
     let one : Doing = record { bytes = []; moments = []; exchanges = made; written = []; calls = first ∷ [] } in
     let did : Does who Any a b g g t t' k k one = record { moments = grows_none g; exchanges = asks; written = (does_nothing who Any a g t k).written; calls = admitted } in
     let more : Does who (BothOpen who delivery fetch) b c g g' t' t' k k' d = record {
@@ -239,7 +239,7 @@ missed_with who a b c g g' t t' k k' before now asked place manner delivery fetc
 
 pub missed : (who : Who) (a b c : History → Type 0) (g g' : Option (List ℕ)) (t t' : Option (List Exchange)) (k k' : Option (List ℕ)) (before now : ℕ) (asked : Asked) (place : Place) (manner : Manner) (delivery fetch : ℕ) (plan : List Endpoint) (made : List Exchange) (how : Outcome) (d : Doing) (after : Next)
     → IsAsked (origin_form asked.target) plan made how → HasGateFault before now (Brought delivery fetch plan made how 0 reply.Deleted 0 reply.Deleted)
-    → Makes who Any a b ((Admit asked place manner.moment, reply.Miss delivery fetch plan) ∷ []) → Grows t t' made
+    → Makes who Any a b ((Admit (request_of asked place manner.extra) manner.moment, reply.Miss delivery fetch plan) ∷ []) → Grows t t' made
     → DeliversFetched manner delivery fetch how d after → (v : Who) → v ≡ who → Does v (BothOpen v delivery fetch) b c g g' None None k k' d
     → Delivered who a c g g' t t' k k' before now asked place manner after
 missed who a b c g g' t t' k k' before now asked place manner delivery fetch plan made how d after planned caused admitted asks f v same does = elim (f.short) as (λ x. f.short ≡ x → Delivered who a c g g' t t' k k' before now asked place manner after) [
@@ -277,7 +277,7 @@ content_ready who a b c g g' g'' t t' t'' k k' root asked place manner d e how c
         bytes = ap (λ (x : Doing). x.bytes ++ e.bytes) r.is ∙ v.bytes;
         moments = ap (λ (x : Doing). x.moments ++ e.moments) r.is ∙ ap (λ x. refresh_moments r.how ++ x) v.moments;
         exchanges = ap (λ (x : Doing). x.exchanges ++ e.exchanges) r.is ∙ ap (λ x. refresh_exchanges r.how ++ x) v.exchanges;
-        calls = ap (λ (x : Doing). x.calls ++ e.calls) r.is ∙ ap (λ x. refresh_calls manner.moment r.how ++ x) (v.calls ∙ ap (λ (x : List ℕ). course_calls (Admit asked place manner.moment) v.answer (length x) course) (sym w));
+        calls = ap (λ (x : Doing). x.calls ++ e.calls) r.is ∙ ap (λ x. refresh_calls manner.moment r.how ++ x) (v.calls ∙ ap (λ (x : List ℕ). course_calls (Admit (request_of asked place manner.extra) manner.moment) v.answer (length x) course) (sym w));
         goes = v.goes;
       },
       refl,
@@ -287,7 +287,7 @@ content_ready who a b c g g' g'' t t' t'' k k' root asked place manner d e how c
 -- after a refresh that does not
 unadmitted : (who : Who) (a : History → Type 0) (g : Option (List ℕ)) (t : Option (List Exchange)) (Is : Answer → Type 0) (k k' : Option (List ℕ)) (sent : Sent) (s : Says Is k k' sent) (asked : Asked) (place : Place) (manner : Manner) (course : Course) (after : Next)
     → IsPlanned asked.target course → IsAnswerOf manner course s.answer → course_moments course ≡ [] → course_exchanges course ≡ []
-    → ((taken : ℕ) → course_calls (Admit asked place manner.moment) s.answer taken course ≡ []) → after ≡ next_of manner.leaves (is_short course) sent.fault
+    → ((taken : ℕ) → course_calls (Admit (request_of asked place manner.extra) manner.moment) s.answer taken course ≡ []) → after ≡ next_of manner.leaves (is_short course) sent.fault
     → (d : Doing) × Delivers asked place manner course d after × Does who Any a a g g t t k k' d
 unadmitted who a g t Is k k' sent s asked place manner course after planned answered moments exchanges calls goes = (
   record nothing { written = s.written },

@@ -3,7 +3,7 @@ use Rattle.std.specs.Prelude.{◌≡◌, ◌≢◌, ℕ, ◌-◌, Bool, true, fa
 use Rattle.cdni_base.specs.declared.asked.Asked.{Asked}
 use Rattle.cdni_base.specs.declared.rule.Rule.{Rule}
 use Rattle.edge_base.specs.Causes.{Rose}
-use Rattle.history.specs.Event.{Event, Admit, FetchEnd, Finish}
+use Rattle.history.specs.Event.{Event, Admit, FetchEnd, Finish, request_of}
 use Rattle.history.specs.declared.reply.Reply.{Reply}
 use Rattle.history.specs.declared.reply.Reply.TheVariants as reply
 use Rattle.location_acl.specs.declared.footprint.Place.{Place}
@@ -135,7 +135,7 @@ pub record Delivers (asked : Asked) (place : Place) (manner : Manner) (course : 
   pub bytes : d.bytes ≡ []
   pub moments : d.moments ≡ course_moments course
   pub exchanges : d.exchanges ≡ course_exchanges course
-  pub calls : d.calls ≡ course_calls (Admit asked place manner.moment) answer (length d.written) course
+  pub calls : d.calls ≡ course_calls (Admit (request_of asked place manner.extra) manner.moment) answer (length d.written) course
   pub goes : after ≡ next_of manner.leaves (is_short course) fault
 
 -- A request for content: a refresh, and then the delivery.
@@ -153,7 +153,7 @@ pub record Content (root : Target) (asked : Asked) (place : Place) (manner : Man
   pub moments : d.moments ≡ refresh_moments how ++ course_moments course
   pub exchanges : d.exchanges ≡ refresh_exchanges how ++ course_exchanges course
   pub calls : d.calls ≡ refresh_calls manner.moment how
-      ++ course_calls (Admit asked place manner.moment) answer (length d.written) course
+      ++ course_calls (Admit (request_of asked place manner.extra) manner.moment) answer (length d.written) course
   pub goes : after ≡ next_of manner.leaves (is_short course) fault
 
 -- what is answered with the outcome of a fetch: the constant 503 where no memory was found

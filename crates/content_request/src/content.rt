@@ -12,6 +12,7 @@ ghost use Rattle.session_base.specs.Open.{BothOpen};
 
 use crate::refresh::{Refreshed, refresh};
 use cdni_base::{Asked, EndpointList, Target};
+use cdni_log::ExtraList;
 use edge_base::{Clock, Sink};
 use history::{Call, Reply};
 use location_acl::Place;
@@ -85,12 +86,13 @@ fn deliver<R: Threads + Wait + Sync, H: Home, K: Sink, G: Gate, C: Clock>(
     ensures later { K.faults sink.old ≤ K.faults sink.new }
     ensures write { result ≡ Next.Stops Ending.WriteFault → Rose (K.faults sink.old) (K.faults sink.new) }
 {
-    let Ok(target) = copy_of(&asked.target) else {
+    let Ok((target, extra)) = copies_of(&asked.target, &manner.extra) else {
         return fall_short(sink);
     };
     let call = Call::Admit {
         asked,
         place,
+        extra,
         moment: manner.moment,
     };
     match home.call(rt, alloc, call) {
@@ -132,10 +134,12 @@ fn deliver<R: Threads + Wait + Sync, H: Home, K: Sink, G: Gate, C: Clock>(
     }
 }
 
-fn copy_of(target: &Target) -> Result<Target, AllocError>
-    ensures { IfOk result (λ copy. copy ≡ target.now) }
+// what the admission takes of the request, and what its fetch asks for
+fn copies_of(target: &Target, extra: &ExtraList) -> Result<(Target, ExtraList), AllocError>
+    ensures target { IfOk result (λ copies. copies.0 ≡ target.now) }
+    ensures extra { IfOk result (λ copies. copies.1 ≡ extra.now) }
 {
-    target.clone()
+    Ok((target.clone()?, extra.clone()?))
 }
 
 // ends a fetch, and answers with what it brought

@@ -28,7 +28,7 @@ use Rattle.control_request.specs.declared.advance.Step.TheVariants as step
 
 -- the one call of a request
 abbrev pub IsControlEvent : Event → Type 0
-IsControlEvent (Admit asked place moment) = ⊥
+IsControlEvent (Admit request moment) = ⊥
 IsControlEvent (FetchEnd fetch outcome moment) = ⊥
 IsControlEvent (Finish delivery status total entity moment) = ⊥
 IsControlEvent (RefreshBegin moment) = ⊥
@@ -63,7 +63,7 @@ event_acted (act.Trigger spec) moment event line short (is, count, full) = subst
 
 -- it ends no fetch
 ends_none : (event : Event) → IsControlEvent event → ends_failed event ≡ false
-ends_none (Admit asked place moment) is = refl
+ends_none (Admit request moment) is = refl
 ends_none (FetchEnd fetch outcome moment) is = absurd is
 ends_none (Finish delivery status total entity moment) is = refl
 ends_none (RefreshBegin moment) is = refl

@@ -4,6 +4,7 @@ ghost use Rattle.doors.specs.MemoryDoor.{book_of};
 ghost use Rattle.doors.specs.Served.{HasServedAll};
 
 use cdni_base::{Body, Endpoint, Limits, Protocol, ProviderId, Target, Text, TextList, TypeName};
+use cdni_log::default_fields;
 use doors::{Connection, ConnectionList, DoorEnd, MemoryDoor, Passage, Worker, serve_door};
 use edge_base::{ListClock, MemorySink, MemorySource};
 use location_acl::{Ip, PlaceTable};
@@ -40,7 +41,8 @@ fn settings(alloc: Global) -> Result<Settings, Fail> {
     let Ok(own) = ProviderId::read(alloc, b"AS64496:0") else {
         return Err(Fail::from("an id"));
     };
-    let Some(advert) = AdvertSettings::new(Protocol::Http, TextList::new(alloc)) else {
+    let fields = default_fields(alloc)?;
+    let Some(advert) = AdvertSettings::new(Protocol::Http, TextList::new(alloc), fields) else {
         return Err(Fail::from("footprints"));
     };
     Ok(Settings {
@@ -49,6 +51,7 @@ fn settings(alloc: Global) -> Result<Settings, Fail> {
         root,
         own,
         advert,
+        fields: default_fields(alloc)?,
     })
 }
 
@@ -92,7 +95,8 @@ fn served<R: Threads + Wait + Sync>(
 
 fn home(alloc: Global) -> Result<OneHome, Fail> {
     let origin = Text::of(alloc, b"dcdn.example")?;
-    let node = Node::new(alloc, &Limits::standard(), origin)?;
+    let fields = default_fields(alloc)?;
+    let node = Node::new(alloc, &Limits::standard(), origin, fields)?;
     Ok(OneHome { node, number: 0 })
 }
 

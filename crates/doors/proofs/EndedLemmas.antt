@@ -133,7 +133,7 @@ module _ (opened : Called → Option ℕ) (ends : ℕ → ℕ → Entry → Bool
       (subst (λ (l : History). opened (event, reply_to who.made l (who.number, event)) ≡ Some number) s.1 (subst (λ (x : Reply). opened (event, x) ≡ Some number) (sym a.answered) opens))
 
 asks_delivery : Asks ends_delivery
-asks_delivery number pass (Admit asked place moment) is = absurd (both_ways _ refl is)
+asks_delivery number pass (Admit request moment) is = absurd (both_ways _ refl is)
 asks_delivery number pass (FetchEnd fetch outcome moment) is = absurd (both_ways _ refl is)
 asks_delivery number pass (Finish delivery status total entity moment) is = and_from (delivery == number) (pass == pass) (and_parts (delivery == number) (0 == 0) is).0 (eq-eqb pass pass refl)
 asks_delivery number pass (RefreshBegin moment) is = absurd (both_ways _ refl is)
@@ -150,7 +150,7 @@ asks_delivery number pass ListLogs is = absurd (both_ways _ refl is)
 asks_delivery number pass (DropLog file) is = absurd (both_ways _ refl is)
 
 asks_fetch : Asks ends_fetch
-asks_fetch number pass (Admit asked place moment) is = absurd (both_ways _ refl is)
+asks_fetch number pass (Admit request moment) is = absurd (both_ways _ refl is)
 asks_fetch number pass (FetchEnd fetch outcome moment) is = and_from (fetch == number) (pass == pass) (and_parts (fetch == number) (0 == 0) is).0 (eq-eqb pass pass refl)
 asks_fetch number pass (Finish delivery status total entity moment) is = absurd (both_ways _ refl is)
 asks_fetch number pass (RefreshBegin moment) is = absurd (both_ways _ refl is)
@@ -167,7 +167,7 @@ asks_fetch number pass ListLogs is = absurd (both_ways _ refl is)
 asks_fetch number pass (DropLog file) is = absurd (both_ways _ refl is)
 
 asks_refresh : Asks ends_refresh
-asks_refresh number pass (Admit asked place moment) is = absurd (both_ways _ refl is)
+asks_refresh number pass (Admit request moment) is = absurd (both_ways _ refl is)
 asks_refresh number pass (FetchEnd fetch outcome moment) is = absurd (both_ways _ refl is)
 asks_refresh number pass (Finish delivery status total entity moment) is = absurd (both_ways _ refl is)
 asks_refresh number pass (RefreshBegin moment) is = absurd (both_ways _ refl is)

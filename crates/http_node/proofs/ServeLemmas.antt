@@ -13,6 +13,7 @@ use Rattle.edge_base.specs.Causes.{Rose}
 use Rattle.edge_base.specs.declared.status.Status.{Status}
 use Rattle.edge_base.specs.declared.status.Status.TheVariants as status
 use Rattle.cdni_base.specs.Limits.{Bounds}
+use Rattle.cdni_log.specs.declared.field.Field.{Field}
 use Rattle.footprints.specs.Settings.{AdvertParts}
 use Rattle.location_acl.specs.Line.{AreLines, StopsAt}
 use Rattle.location_acl.specs.declared.line.PlaceLine.{PlaceLine}
@@ -22,7 +23,7 @@ use Rattle.session_base.specs.declared.settings.Settings.{Settings}
 use Rattle.workers.proofs.CrewLemmas.{IsEnd, is_end}
 use Rattle.workers.proofs.HiringLemmas.{diary_same, diary_then}
 use Rattle.workers.specs.declared.crew.Crew.{Crew}
-use Rattle.history.specs.World.{Made}
+use Rattle.history.specs.World.{Made, node_made}
 use Rattle.http_node.specs.Note.{IsNoted, serve_note}
 use Rattle.workers.specs.Crew.{AreShifts, Dismissed, GaveBack, Served, Serves, Shift, fault_status, refused, refused_status}
 use Rattle.workers.specs.declared.hiring.Unhired.{Unhired}
@@ -339,19 +340,19 @@ noted_end options old new returned returned' faults faults' line result other by
   subst (λ (s : Status). IsNoted held held' before after (serve_note s line)) (sym same) (subst (λ (l : List ℕ). IsNoted held held' before after l) (shown ∙ said) noted),
 )
 
-pub made_as : (limits : Bounds) (a b : List ℕ) → a ≡ b → ◌≡◌ {A = Made} (record { limits = limits; origin = a }) (record { limits = limits; origin = b })
-made_as limits a b same = subst (λ (o : List ℕ). ◌≡◌ {A = Made} (record { limits = limits; origin = a }) (record { limits = limits; origin = o })) same refl
+pub made_as : (limits : Bounds) (a b : List ℕ) (logged fields : List Field) → a ≡ b → logged ≡ fields → node_made limits a logged ≡ node_made limits b fields
+made_as limits a b logged fields same files = ap (λ o. node_made limits o logged) same ∙ ap (node_made limits b) files
 
 crew_with : Options → List PlaceLine → AdvertParts → Crew
 crew_with options places parts = record {
   workers = options.workers;
   connections = options.connections;
   places = places;
-  settings = record { protocol = parts.protocol; control = options.control; root = options.root; own = options.own; advert = options.advert };
+  settings = record { protocol = parts.protocol; control = options.control; root = options.root; own = options.own; advert = options.advert; fields = options.fields };
 }
 
 pub crew_as : (options : Options) (places : List PlaceLine) (parts : AdvertParts) → parts ≡ options.advert
-    → ◌≡◌ {A = Crew} (record { workers = options.workers; connections = options.connections; places = places; settings = record { protocol = parts.protocol; control = options.control; root = options.root; own = options.own; advert = options.advert } })
+    → ◌≡◌ {A = Crew} (record { workers = options.workers; connections = options.connections; places = places; settings = record { protocol = parts.protocol; control = options.control; root = options.root; own = options.own; advert = options.advert; fields = options.fields } })
     (crew_of options places)
 unfolding crew_with
 crew_as options places parts same = ap (λ (p : AdvertParts). crew_with options places p) same

@@ -9,7 +9,7 @@ use Rattle.edge_base.specs.Causes.{Rose}
 use Rattle.edge_base.specs.declared.status.Status.{Status}
 use Rattle.edge_base.specs.declared.status.Status.TheVariants as status
 use Rattle.history.specs.Event.{History}
-use Rattle.history.specs.World.{Made}
+use Rattle.history.specs.World.{Made, node_made}
 use Rattle.location_acl.specs.Line.{AreLines, StopsAt}
 use Rattle.location_acl.specs.declared.line.PlaceLine.{PlaceLine}
 use Rattle.serve_words.specs.declared.options.Options.{Options}
@@ -24,7 +24,7 @@ use Rattle.http_node.specs.declared.serve.ServeEnd.TheVariants as serve_end
 
 -- with what the node is made
 abbrev pub made_of : Options → Made
-made_of options = record { limits = options.limits; origin = options.origin }
+made_of options = node_made options.limits options.origin options.fields
 
 -- what holds for all connections
 abbrev pub settings_of : Options → Settings
@@ -34,6 +34,7 @@ settings_of options = record {
   root = options.root;
   own = options.own;
   advert = options.advert;
+  fields = options.fields;
 }
 
 -- the workers, with these places

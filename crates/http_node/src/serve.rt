@@ -4,6 +4,7 @@ ghost use Rattle.std.specs.Prelude.{◌≡◌, ◌≤◌, ◌⊎◌, ℕ, List, 
 ghost use Rattle.std.specs.Option.{option_map};
 ghost use Rattle.std.specs.declared.option.Option.{Option};
 ghost use Rattle.doors.specs.Outside.{Asked, DiaryGrows};
+ghost use Rattle.history.specs.World.{node_made};
 ghost use Rattle.http_node.specs.Note.{IsNoted, note_of, serve_note};
 ghost use Rattle.http_node.specs.Serve.{IsCommand, IsTable, IsUnread, Listens, Places, Stops, line_of, status_at};
 ghost use Rattle.location_acl.specs.Line.{AreLines};
@@ -11,14 +12,15 @@ ghost use Rattle.node_core.specs.Node.{Stands};
 ghost use Rattle.serve_words.specs.Options.{options_of};
 
 use crate::note::{NOTE_ROOM, note_status, put_serve_note, write_note};
-use cdni_base::{Scratch, Text};
+use cdni_base::{Limits, Scratch, Text};
+use cdni_log::FieldList;
 use doors::Outside;
 use edge_base::{Sink, Status};
 use location_acl::{PlaceFault, PlaceTable};
 use node_core::Node;
 use serve_words::{Options, OptionsRead, read_options};
 use session_base::Settings;
-use std::alloc::Global;
+use std::alloc::{AllocError, Global};
 use std::sync::Wait;
 use std::thread::Threads;
 use workers::{Crew, fault_status, serve_workers};
@@ -205,9 +207,10 @@ fn serve_placed<R: Threads + Wait + Sync, O: Outside>(
         places: _,
         own,
         origin,
+        fields,
         limits,
     } = options;
-    let Ok(node) = Node::new(alloc, &limits, origin.0) else {
+    let Ok(node) = node_of(alloc, &limits, origin.0, &fields) else {
         return Status::Memory;
     };
     let settings = Settings {
@@ -216,6 +219,7 @@ fn serve_placed<R: Threads + Wait + Sync, O: Outside>(
         root,
         own,
         advert,
+        fields,
     };
     let crew = Crew {
         workers,
@@ -224,6 +228,27 @@ fn serve_placed<R: Threads + Wait + Sync, O: Outside>(
         settings,
     };
     serve_listening(rt, alloc, address.bytes(), node, &crew, outside)
+}
+
+// the node of these limits, whose log files claim this host and have these fields
+fn node_of(
+    alloc: Global,
+    limits: &Limits,
+    origin: Text,
+    fields: &FieldList,
+) -> Result<Node, AllocError>
+    ensures stands { IfOk result (λ node. Stands node (node_made limits.now origin fields.now) []) }
+    ensures made { IfOk result (λ node. node.made ≡ node_made limits.now origin fields.now) }
+{
+    let logged = copy_of(fields)?;
+    Node::new(alloc, limits, origin, logged)
+}
+
+// the fields once more: the node has them for its files, and the settings for the requests
+fn copy_of(fields: &FieldList) -> Result<FieldList, AllocError>
+    ensures { IfOk result (λ copy. copy ≡ fields.now) }
+{
+    fields.clone()
 }
 
 // listens, and serves

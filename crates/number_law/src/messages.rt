@@ -41,6 +41,6 @@ pub fn numbers_of_requests()
 
 /// How many requests one has, and the longest body of a request: 1 MiB.
 pub fn numbers_of_connections()
-    ensures turns_max { session_serve.TURNS_MAX ≡ 1000 }
+    ensures turns_max { session_serve.TURNS_MAX ≡ 10000 }
     ensures body_limit { session_turn.BODY_LIMIT ≡ 1048576 }
 {}

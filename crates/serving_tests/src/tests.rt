@@ -3,6 +3,7 @@
 ghost use Rattle.doors.specs.Served.{HasServedAll};
 
 use cdni_base::{Endpoint, Limits, Protocol, ProviderId, Target, Text, TextList};
+use cdni_log::default_fields;
 use doors::{Door, DoorEnd, Outside, Worker, serve_door};
 use edge_base::{Clock, MemorySink, Status, WallClock};
 use http_node::serve_main;
@@ -192,7 +193,12 @@ pub(crate) fn settings_at(alloc: Global, root: &[u8]) -> Result<Settings, Fail> 
             .host,
         root: Target::read(alloc, root, None, false).ok().ok_or("URL")?,
         own: ProviderId::read(alloc, b"AS64496:0").ok().ok_or("id")?,
-        advert: AdvertSettings::new(Protocol::Http, TextList::new(alloc)).ok_or("footprints")?,
+        advert: AdvertSettings::new(
+            Protocol::Http,
+            TextList::new(alloc),
+            default_fields(alloc)?,
+        ).ok_or("footprints")?,
+        fields: default_fields(alloc)?,
     })
 }
 
@@ -441,7 +447,8 @@ fn document_of(alloc: Global, port: u16) -> Result<String, Fail> {
 // a home over a node of its own
 pub(crate) fn home(alloc: Global) -> Result<OneHome, Fail> {
     let origin = Text::of(alloc, b"dcdn.example")?;
-    let node = Node::new(alloc, &Limits::standard(), origin)?;
+    let fields = default_fields(alloc)?;
+    let node = Node::new(alloc, &Limits::standard(), origin, fields)?;
     Ok(OneHome { node, number: 0 })
 }
 

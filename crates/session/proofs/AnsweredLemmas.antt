@@ -1,6 +1,7 @@
 -- How many requests of a connection were answered.
 use Rattle.std.proofs.Common.{◌≡◌, ℕ, ◌+◌, ◌-◌, ◌<◌, ◌≤◌, ◌==◌, Bool, true, false, not, ◌&&◌, List, [], ◌∷◌, length, refl, sym, ◌∙◌, ap, subst, arith, cond, inl, inr, ◌↔◌}
 use Rattle.std.proofs.lemmas.Bool.{eq-eqb, cases_lt}
+use Rattle.cdni_log.specs.declared.field.Field.{Field}
 use Rattle.http_wire.specs.Head.{HeadParts}
 use Rattle.location_acl.specs.declared.footprint.Place.{Place}
 use Rattle.control_request.proofs.ControlLemmas.{serves_goes}
@@ -38,9 +39,9 @@ stays_here false false e = cc
 same_end : (e end : Ending) → next.Stops e ≡ next.Stops end → e ≡ end
 same_end e end same = cc
 
-leaves_last : (head : HeadParts) (moment : ℕ) → (manner_of head moment true).leaves ≡ false
+leaves_last : (fields : List Field) (head : HeadParts) (moment : ℕ) → (manner_of fields head moment true).leaves ≡ false
 unfolding manner_of
-leaves_last head moment = refl
+leaves_last fields head moment = refl
 
 -- no turn ends the connection as its last turn does
 no_turns : (settings : Settings) (place : Place) (last : Bool) (d : Doing) → Turn settings place last d (next.Stops ending.Turns) → ⊥
@@ -48,7 +49,7 @@ no_turns settings place last d (inl (end, is, none)) = let same : end ≡ ending
 no_turns settings place last d (inr (inl refusal)) = never_turns (not last) false refusal.fault refusal.goes
 no_turns settings place last d (inr (inr (inl broken))) = broken.breaks
 no_turns settings place last d (inr (inr (inr served))) = elim served.answers [
-  | inl control ↦ let goes = serves_goes settings served.asked served.whole.content (manner_of served.head (capped served.moment) last) served.inner (next.Stops ending.Turns) control.1 in never_turns _ goes.0 goes.1 goes.2
+  | inl control ↦ let goes = serves_goes settings served.asked served.whole.content (manner_of settings.fields served.head (capped served.moment) last) served.inner (next.Stops ending.Turns) control.1 in never_turns _ goes.0 goes.1 goes.2
   | inr content ↦ never_turns _ (is_short content.1.course) content.1.fault content.1.goes
 ]
 
@@ -58,9 +59,9 @@ not_closed settings place d (inl (end, is, none)) = let same : end ≡ ending.Cl
 not_closed settings place d (inr (inl refusal)) = stays_here false refusal.fault refusal.goes
 not_closed settings place d (inr (inr (inl broken))) = broken.breaks
 not_closed settings place d (inr (inr (inr served))) = elim served.answers [
-  | inl control ↦ let goes = serves_goes settings served.asked served.whole.content (manner_of served.head (capped served.moment) true) served.inner (next.Stops ending.Closed) control.1 in
-      stays_here goes.0 goes.1 (goes.2 ∙ ap (λ (b : Bool). next_of b goes.0 goes.1) (leaves_last served.head (capped served.moment)))
-  | inr content ↦ stays_here (is_short content.1.course) content.1.fault (content.1.goes ∙ ap (λ (b : Bool). next_of b (is_short content.1.course) content.1.fault) (leaves_last served.head (capped served.moment)))
+  | inl control ↦ let goes = serves_goes settings served.asked served.whole.content (manner_of settings.fields served.head (capped served.moment) true) served.inner (next.Stops ending.Closed) control.1 in
+      stays_here goes.0 goes.1 (goes.2 ∙ ap (λ (b : Bool). next_of b goes.0 goes.1) (leaves_last settings.fields served.head (capped served.moment)))
+  | inr content ↦ stays_here (is_short content.1.course) content.1.fault (content.1.goes ∙ ap (λ (b : Bool). next_of b (is_short content.1.course) content.1.fault) (leaves_last settings.fields served.head (capped served.moment)))
 ]
 
 -- ---- how many turns there are

@@ -3,11 +3,10 @@ use Rattle.std.proofs.Common.{◌≡◌, ℕ, ◌+◌, ◌==◌, Bool, true, ◌
 use Rattle.std.proofs.lemmas.Bool.{eq-eqb, and_from, or_left, or_right}
 use Rattle.std.proofs.lemmas.List.Folds.{list_any-append}
 use Rattle.std.proofs.lemmas.Option.{none-some, same_Some}
-use Rattle.cdni_base.specs.declared.asked.Asked.{Asked}
 use Rattle.std.specs.declared.option.Option.{Option}
 use Rattle.control_request.proofs.CallLemmas.{IsControlEvent, serves_have}
 use Rattle.history.specs.After.{begun_fetch, begun_refresh}
-use Rattle.history.specs.Event.{Entry, Event, Admit, FetchEnd, Finish, RefreshBegin, RefreshEnd, Command, Advance, Cancel, Delete, ReadStatus, Lists, Cut, LogFile, ListLogs, DropLog}
+use Rattle.history.specs.Event.{Entry, Event, Admit, FetchEnd, Finish, RefreshBegin, RefreshEnd, Command, Advance, Cancel, Delete, ReadStatus, Lists, Cut, LogFile, ListLogs, DropLog, Request}
 use Rattle.history.specs.Laws.{ends_delivery, ends_fetch, ends_refresh}
 use Rattle.history.specs.declared.reply.Reply.{Reply}
 use Rattle.history.specs.declared.reply.Reply.TheVariants as reply
@@ -92,20 +91,20 @@ refresh_ended moment (Ungathered refresh made at line) = (
   (opens_none (RefreshEnd refresh None (capped at), line) [] refl refl refl, tt),
 )
 
-course_ended : (asked : Asked) (place : Place) (moment : ℕ) (answer : Answer) (taken : ℕ) (course : Course) → AllEnded (course_calls (Admit asked place moment) answer taken course)
-course_ended asked place moment answer taken NoRoom = tt
-course_ended asked place moment answer taken (Crowded count) = tt
-course_ended asked place moment answer taken (Full count) = (opens_none (Admit asked place moment, reply.Full count) [] refl refl refl, tt)
-course_ended asked place moment answer taken (Barred delivery rule at line) = finished_next (Admit asked place moment, reply.Denied delivery rule) delivery answer taken at line refl refl refl
-course_ended asked place moment answer taken (Kept delivery fetch kind body at line) = finished_next (Admit asked place moment, reply.Hit delivery fetch kind body) delivery answer taken at line refl refl refl
-course_ended asked place moment answer taken (Brought delivery fetch plan made how ended closed at line) =
-    ended_next (Admit asked place moment) (Admit asked place moment, reply.Miss delivery fetch plan) delivery fetch answer taken at line (FetchEnd fetch how (capped ended), closed) refl refl refl refl refl refl (λ number. refl)
-course_ended asked place moment answer taken (Short delivery fetch plan made how ended closed at line) =
-    ended_next (Admit asked place moment) (Admit asked place moment, reply.Miss delivery fetch plan) delivery fetch answer taken at line (FetchEnd fetch how (capped ended), closed) refl refl refl refl refl refl (λ number. refl)
+course_ended : (request : Request) (moment : ℕ) (answer : Answer) (taken : ℕ) (course : Course) → AllEnded (course_calls (Admit request moment) answer taken course)
+course_ended request moment answer taken NoRoom = tt
+course_ended request moment answer taken (Crowded count) = tt
+course_ended request moment answer taken (Full count) = (opens_none (Admit request moment, reply.Full count) [] refl refl refl, tt)
+course_ended request moment answer taken (Barred delivery rule at line) = finished_next (Admit request moment, reply.Denied delivery rule) delivery answer taken at line refl refl refl
+course_ended request moment answer taken (Kept delivery fetch kind body at line) = finished_next (Admit request moment, reply.Hit delivery fetch kind body) delivery answer taken at line refl refl refl
+course_ended request moment answer taken (Brought delivery fetch plan made how ended closed at line) =
+    ended_next (Admit request moment) (Admit request moment, reply.Miss delivery fetch plan) delivery fetch answer taken at line (FetchEnd fetch how (capped ended), closed) refl refl refl refl refl refl (λ number. refl)
+course_ended request moment answer taken (Short delivery fetch plan made how ended closed at line) =
+    ended_next (Admit request moment) (Admit request moment, reply.Miss delivery fetch plan) delivery fetch answer taken at line (FetchEnd fetch how (capped ended), closed) refl refl refl refl refl refl (λ number. refl)
 
 -- a call of the upstream CDN's requests opens nothing
 control_ended : (event : Event) (line : Reply) → IsControlEvent event → AllEnded ((event, line) ∷ [])
-control_ended (Admit asked place moment) line is = absurd is
+control_ended (Admit request moment) line is = absurd is
 control_ended (FetchEnd fetch outcome moment) line is = absurd is
 control_ended (Finish delivery status total entity moment) line is = absurd is
 control_ended (RefreshBegin moment) line is = absurd is
@@ -145,7 +144,7 @@ turn_ended settings place last d after (inr (inr (inr served))) =
     subst (λ (x : Doing). AllEnded x.calls) (sym served.whole.is) (elim served.answers [
       | inl control ↦ serves_have AllEnded tt all_then control_ended still_ended fetched_ended gathered_ended settings served.asked served.whole.content _ served.inner after control.1
       | inr content ↦ let k = content.1 in
-          subst AllEnded (sym k.calls) (all_then (refresh_calls _ k.how) (course_calls _ k.answer _ k.course) (refresh_ended _ k.how) (course_ended served.asked place _ k.answer _ k.course))
+          subst AllEnded (sym k.calls) (all_then (refresh_calls _ k.how) (course_calls _ k.answer _ k.course) (refresh_ended _ k.how) (course_ended _ _ k.answer _ k.course))
     ])
 
 pub runs_ended : (settings : Settings) (place : Place) (n : ℕ) (done : Doing) (turns : List Doing) (end : Ending) (all : Doing) → AllEnded done.calls → Runs settings place n done turns end all → AllEnded all.calls

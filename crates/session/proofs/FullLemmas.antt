@@ -8,7 +8,7 @@ use Rattle.byte_range.specs.declared.span.Span.{Span}
 use Rattle.byte_range.specs.declared.span.Span.TheVariants as span
 use Rattle.cdni_base.specs.Rule.{rule_status}
 use Rattle.cdni_base.specs.declared.asked.Asked.{Asked}
-use Rattle.history.specs.Event.{Event, Admit, FetchEnd, Finish, RefreshBegin, RefreshEnd, Command, Advance, Cancel, Delete, ReadStatus, Lists, Cut, LogFile, ListLogs, DropLog}
+use Rattle.history.specs.Event.{Event, Admit, FetchEnd, Finish, RefreshBegin, RefreshEnd, Command, Advance, Cancel, Delete, ReadStatus, Lists, Cut, LogFile, ListLogs, DropLog, Request, request_of}
 use Rattle.history.specs.declared.reply.Reply.{Reply}
 use Rattle.history.specs.declared.reply.Reply.TheVariants as reply
 use Rattle.location_acl.specs.declared.footprint.Place.{Place}
@@ -69,33 +69,33 @@ full_refresh manner moment (Ungathered refresh made at line) course answer count
 full_refresh manner moment (Ungathered refresh made at line) course answer count follows answered (inr (inr later)) = absurd later
 
 -- a limit in the admission
-full_course : (manner : Manner) (asked : Asked) (place : Place) (moment taken : ℕ) (course : Course) (answer : Answer) (count : ℕ) → IsAnswerOf manner course answer → IsFullIn (course_calls (Admit asked place moment) answer taken course) count → IsShown (full_shown manner count) answer
-full_course manner asked place moment taken NoRoom answer count answered full = absurd full
-full_course manner asked place moment taken (Crowded n) answer count answered full = absurd full
-full_course manner asked place moment taken (Full n) answer count answered (inl here) = full_as manner answer n count here answered
-full_course manner asked place moment taken (Full n) answer count answered (inr later) = absurd later
-full_course manner asked place moment taken (Barred delivery rule at line) answer count answered (inl here) = absurd (none_here count here)
-full_course manner asked place moment taken (Barred delivery rule at line) answer count answered (inr (inl here)) = absurd (none_here count here)
-full_course manner asked place moment taken (Barred delivery rule at line) answer count answered (inr (inr later)) = absurd later
-full_course manner asked place moment taken (Kept delivery fetch kind body at line) answer count answered (inl here) = absurd (none_here count here)
-full_course manner asked place moment taken (Kept delivery fetch kind body at line) answer count answered (inr (inl here)) = absurd (none_here count here)
-full_course manner asked place moment taken (Kept delivery fetch kind body at line) answer count answered (inr (inr later)) = absurd later
-full_course manner asked place moment taken (Brought delivery fetch plan made how ended closed at line) answer count answered (inl here) = absurd (none_here count here)
-full_course manner asked place moment taken (Brought delivery fetch plan made how ended closed at line) answer count answered (inr (inl here)) = absurd (none_here count here)
-full_course manner asked place moment taken (Brought delivery fetch plan made how ended closed at line) answer count answered (inr (inr (inl here))) = absurd (none_here count here)
-full_course manner asked place moment taken (Brought delivery fetch plan made how ended closed at line) answer count answered (inr (inr (inr later))) = absurd later
-full_course manner asked place moment taken (Short delivery fetch plan made how ended closed at line) answer count answered (inl here) = absurd (none_here count here)
-full_course manner asked place moment taken (Short delivery fetch plan made how ended closed at line) answer count answered (inr (inl here)) = absurd (none_here count here)
-full_course manner asked place moment taken (Short delivery fetch plan made how ended closed at line) answer count answered (inr (inr (inl here))) = absurd (none_here count here)
-full_course manner asked place moment taken (Short delivery fetch plan made how ended closed at line) answer count answered (inr (inr (inr later))) = absurd later
+full_course : (manner : Manner) (request : Request) (moment taken : ℕ) (course : Course) (answer : Answer) (count : ℕ) → IsAnswerOf manner course answer → IsFullIn (course_calls (Admit request moment) answer taken course) count → IsShown (full_shown manner count) answer
+full_course manner request moment taken NoRoom answer count answered full = absurd full
+full_course manner request moment taken (Crowded n) answer count answered full = absurd full
+full_course manner request moment taken (Full n) answer count answered (inl here) = full_as manner answer n count here answered
+full_course manner request moment taken (Full n) answer count answered (inr later) = absurd later
+full_course manner request moment taken (Barred delivery rule at line) answer count answered (inl here) = absurd (none_here count here)
+full_course manner request moment taken (Barred delivery rule at line) answer count answered (inr (inl here)) = absurd (none_here count here)
+full_course manner request moment taken (Barred delivery rule at line) answer count answered (inr (inr later)) = absurd later
+full_course manner request moment taken (Kept delivery fetch kind body at line) answer count answered (inl here) = absurd (none_here count here)
+full_course manner request moment taken (Kept delivery fetch kind body at line) answer count answered (inr (inl here)) = absurd (none_here count here)
+full_course manner request moment taken (Kept delivery fetch kind body at line) answer count answered (inr (inr later)) = absurd later
+full_course manner request moment taken (Brought delivery fetch plan made how ended closed at line) answer count answered (inl here) = absurd (none_here count here)
+full_course manner request moment taken (Brought delivery fetch plan made how ended closed at line) answer count answered (inr (inl here)) = absurd (none_here count here)
+full_course manner request moment taken (Brought delivery fetch plan made how ended closed at line) answer count answered (inr (inr (inl here))) = absurd (none_here count here)
+full_course manner request moment taken (Brought delivery fetch plan made how ended closed at line) answer count answered (inr (inr (inr later))) = absurd later
+full_course manner request moment taken (Short delivery fetch plan made how ended closed at line) answer count answered (inl here) = absurd (none_here count here)
+full_course manner request moment taken (Short delivery fetch plan made how ended closed at line) answer count answered (inr (inl here)) = absurd (none_here count here)
+full_course manner request moment taken (Short delivery fetch plan made how ended closed at line) answer count answered (inr (inr (inl here))) = absurd (none_here count here)
+full_course manner request moment taken (Short delivery fetch plan made how ended closed at line) answer count answered (inr (inr (inr later))) = absurd later
 
 pub content_full : (root : Target) (asked : Asked) (place : Place) (manner : Manner) (d : Doing) (after : Next) → (content : Content root asked place manner d after) → (count : ℕ) → IsFullIn d.calls count → IsShown (full_shown manner count) content.answer
 content_full root asked place manner d after content count full =
     let front = refresh_calls manner.moment content.how in
-    let back = course_calls (Admit asked place manner.moment) content.answer (length d.written) content.course in
+    let back = course_calls (Admit (request_of asked place manner.extra) manner.moment) content.answer (length d.written) content.course in
     elim (full_parts front back count (subst (λ (x : List Called). IsFullIn x count) content.calls full)) [
       | inl here ↦ full_refresh manner manner.moment content.how content.course content.answer count content.follows content.answered here
-      | inr there ↦ full_course manner asked place manner.moment (length d.written) content.course content.answer count content.answered there
+      | inr there ↦ full_course manner (request_of asked place manner.extra) manner.moment (length d.written) content.course content.answer count content.answered there
     ]
 
 -- ---- and nothing else has the status 503 but a denial and want of memory
@@ -145,10 +145,10 @@ crowded_by moment n (Gathered refresh made tree at line) follows = absurd follow
 crowded_by moment n (Ungathered refresh made at line) follows = absurd (crowded_no n follows)
 
 only_course : (manner : Manner) (asked : Asked) (place : Place) (taken : ℕ) (how : Refreshing) (course : Course) (answer : Answer) → Follows (refreshed_by how) course → IsPlanned asked.target course → IsAnswerOf manner course answer → answer.status ≡ 503
-    → IsUnavailable manner (refresh_calls manner.moment how ++ course_calls (Admit asked place manner.moment) answer taken course) answer
+    → IsUnavailable manner (refresh_calls manner.moment how ++ course_calls (Admit (request_of asked place manner.extra) manner.moment) answer taken course) answer
 only_course manner asked place taken how NoRoom answer follows planned is e = inr (inr is)
 only_course manner asked place taken how (Crowded n) answer follows planned is e = let by = crowded_by manner.moment n how follows in inl (by.0, full_before (refresh_calls manner.moment how) [] by.0 by.1)
-only_course manner asked place taken how (Full n) answer follows planned is e = inl (n, full_behind (refresh_calls manner.moment how) ((Admit asked place manner.moment, reply.Full n) ∷ []) n (inl refl))
+only_course manner asked place taken how (Full n) answer follows planned is e = inl (n, full_behind (refresh_calls manner.moment how) ((Admit (request_of asked place manner.extra) manner.moment, reply.Full n) ∷ []) n (inl refl))
 only_course manner asked place taken how (Barred delivery rule at line) answer follows planned is e = inr (inl (rule, shown_status (denied_shown manner rule) answer is e, is))
 only_course manner asked place taken how (Kept delivery fetch kind body at line) answer follows planned is e = absurd (other_content manner kind body (shown_status (content_shown manner kind body) answer is e))
 only_course manner asked place taken how (Brought delivery fetch plan made ended at closed written line) answer follows planned is e = absurd (other_brought manner ended planned.2 (shown_status (brought_shown manner ended) answer is e))
@@ -161,7 +161,7 @@ content_only root asked place manner d after content e = subst (λ (x : List Cal
 -- ---- requests of the upstream CDN
 
 reached_full : (event : Event) (line : Reply) (count : ℕ) → reached_limit (event, line) ≡ Some count → full_count line ≡ Some count
-reached_full (Admit asked place moment) line count is = is
+reached_full (Admit request moment) line count is = is
 reached_full (FetchEnd fetch outcome moment) line count is = absurd (none_here count is)
 reached_full (Finish delivery status total entity moment) line count is = absurd (none_here count is)
 reached_full (RefreshBegin moment) line count is = is

@@ -1,10 +1,9 @@
 -- What a history records of the deliveries of a session.
 use Rattle.std.proofs.Common.{◌≡◌, ℕ, ◌+◌, ◌==◌, Bool, true, false, not, List, [], ◌∷◌, ◌++◌, length, refl, sym, ◌∙◌, ap, subst, append_assoc, append-nil, Some, IsTrue, ◌↔◌, inl, inr}
 use Rattle.std.specs.List.{list_any}
-use Rattle.cdni_base.specs.declared.asked.Asked.{Asked}
 use Rattle.delivery_law.specs.LogRows.{HasRow}
 use Rattle.history.specs.After.{begun_delivery}
-use Rattle.history.specs.Event.{Entry, Event, History, Admit, FetchEnd, Finish, RefreshBegin, RefreshEnd, Command, Advance, Cancel, Delete, ReadStatus, Lists, Cut, LogFile, ListLogs, DropLog}
+use Rattle.history.specs.Event.{Entry, Event, History, Admit, FetchEnd, Finish, RefreshBegin, RefreshEnd, Command, Advance, Cancel, Delete, ReadStatus, Lists, Cut, LogFile, ListLogs, DropLog, Request}
 use Rattle.history.specs.History.{AnsweredAt, reply_to, world_of}
 use Rattle.history.specs.Laws.{HasBegun, IsOpen, ends_delivery}
 use Rattle.history.specs.Reply.{finish_reply, reply_in}
@@ -77,7 +76,7 @@ Logs who calls = (h last : History) → Told who h calls last → AllLogged who 
 one_longer : (who : Who) (middle last more : History) (call : Called) → last ≡ middle ++ more → IsLogged who middle call → IsLogged who last call
 one_longer who middle last more (Finish delivery status total entity moment, answer) longer (number, at, is, a) =
     (number, at, is, answered_longer who.made middle last more at (who.number, Finish delivery status total entity moment) (reply.Logged number) longer a)
-one_longer who middle last more (Admit asked place moment, answer) longer logged = tt
+one_longer who middle last more (Admit request moment, answer) longer logged = tt
 one_longer who middle last more (FetchEnd fetch outcome moment, answer) longer logged = tt
 one_longer who middle last more (RefreshBegin moment, answer) longer logged = tt
 one_longer who middle last more (RefreshEnd refresh tree moment, answer) longer logged = tt
@@ -159,22 +158,22 @@ module _ (law : OpenLaw) (who : Who) where
   refresh_logs moment (Gathered refresh made tree at line) h last told = (tt, (tt, tt))
   refresh_logs moment (Ungathered refresh made at line) h last told = (tt, (tt, tt))
 
-  course_logs : (asked : Asked) (place : Place) (moment : ℕ) (answer : Answer) (taken : ℕ) (course : Course) → Logs who (course_calls (Admit asked place moment) answer taken course)
-  course_logs asked place moment answer taken NoRoom h last told = tt
-  course_logs asked place moment answer taken (Crowded count) h last told = tt
-  course_logs asked place moment answer taken (Full count) h last told = (tt, tt)
-  course_logs asked place moment answer taken (Barred delivery rule at line) h last told =
-      (tt, (end_logged h last (Admit asked place moment, reply.Denied delivery rule) [] delivery _ _ _ _ line refl refl told, tt))
-  course_logs asked place moment answer taken (Kept delivery fetch kind body at line) h last told =
-      (tt, (end_logged h last (Admit asked place moment, reply.Hit delivery fetch kind body) [] delivery _ _ _ _ line refl refl told, tt))
-  course_logs asked place moment answer taken (Brought delivery fetch plan made how ended closed at line) h last told =
-      (tt, (tt, (end_logged h last (Admit asked place moment, reply.Miss delivery fetch plan) ((FetchEnd fetch how (capped ended), closed) ∷ []) delivery _ _ _ _ line refl refl told, tt)))
-  course_logs asked place moment answer taken (Short delivery fetch plan made how ended closed at line) h last told =
-      (tt, (tt, (end_logged h last (Admit asked place moment, reply.Miss delivery fetch plan) ((FetchEnd fetch how (capped ended), closed) ∷ []) delivery _ _ _ _ line refl refl told, tt)))
+  course_logs : (request : Request) (moment : ℕ) (answer : Answer) (taken : ℕ) (course : Course) → Logs who (course_calls (Admit request moment) answer taken course)
+  course_logs request moment answer taken NoRoom h last told = tt
+  course_logs request moment answer taken (Crowded count) h last told = tt
+  course_logs request moment answer taken (Full count) h last told = (tt, tt)
+  course_logs request moment answer taken (Barred delivery rule at line) h last told =
+      (tt, (end_logged h last (Admit request moment, reply.Denied delivery rule) [] delivery _ _ _ _ line refl refl told, tt))
+  course_logs request moment answer taken (Kept delivery fetch kind body at line) h last told =
+      (tt, (end_logged h last (Admit request moment, reply.Hit delivery fetch kind body) [] delivery _ _ _ _ line refl refl told, tt))
+  course_logs request moment answer taken (Brought delivery fetch plan made how ended closed at line) h last told =
+      (tt, (tt, (end_logged h last (Admit request moment, reply.Miss delivery fetch plan) ((FetchEnd fetch how (capped ended), closed) ∷ []) delivery _ _ _ _ line refl refl told, tt)))
+  course_logs request moment answer taken (Short delivery fetch plan made how ended closed at line) h last told =
+      (tt, (tt, (end_logged h last (Admit request moment, reply.Miss delivery fetch plan) ((FetchEnd fetch how (capped ended), closed) ∷ []) delivery _ _ _ _ line refl refl told, tt)))
 
   -- the calls of the upstream CDN's requests end no delivery
   control_logs : (event : Event) (line : Reply) → IsControlEvent event → Logs who ((event, line) ∷ [])
-  control_logs (Admit asked place moment) line is h last told = absurd is
+  control_logs (Admit request moment) line is h last told = absurd is
   control_logs (FetchEnd fetch outcome moment) line is h last told = absurd is
   control_logs (Finish delivery status total entity moment) line is h last told = absurd is
   control_logs (RefreshBegin moment) line is h last told = absurd is
@@ -202,7 +201,7 @@ module _ (law : OpenLaw) (who : Who) where
         | inl control ↦ serves_have (Logs who) none_logs (logs_then who) control_logs (λ id at line f r h x told. (tt, tt)) (λ id at fetch plan target how end closed h x told. (tt, (tt, tt)))
             (λ id at refresh tree end closed h x told. (tt, (tt, tt))) settings served.asked served.whole.content _ served.inner after control.1
         | inr content ↦ let k = content.1 in
-            subst (Logs who) (sym k.calls) (logs_then who (refresh_calls _ k.how) (course_calls _ k.answer _ k.course) (refresh_logs _ k.how) (course_logs served.asked place _ k.answer _ k.course))
+            subst (Logs who) (sym k.calls) (logs_then who (refresh_calls _ k.how) (course_calls _ k.answer _ k.course) (refresh_logs _ k.how) (course_logs _ _ k.answer _ k.course))
       ])
 
   pub runs_logs : (settings : Settings) (place : Place) (n : ℕ) (done : Doing) (turns : List Doing) (end : Ending) (all : Doing) → Logs who done.calls → Runs settings place n done turns end all → Logs who all.calls
@@ -221,7 +220,7 @@ RowLaw = (made : Made) (h : History) (number at pass delivery status total entit
 
 one_recorded : RowLaw → (who : Who) (h : History) (call : Called) → IsLogged who h call → IsRecorded who.made h call
 one_recorded law who h (Finish delivery status total entity moment, answer) (number, at, is, a) = (number, at, is, law who.made h number at who.number delivery status total entity moment a)
-one_recorded law who h (Admit asked place moment, answer) logged = tt
+one_recorded law who h (Admit request moment, answer) logged = tt
 one_recorded law who h (FetchEnd fetch outcome moment, answer) logged = tt
 one_recorded law who h (RefreshBegin moment, answer) logged = tt
 one_recorded law who h (RefreshEnd refresh tree moment, answer) logged = tt

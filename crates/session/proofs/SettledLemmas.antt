@@ -13,7 +13,7 @@ use Rattle.control_request.specs.declared.advance.Step.{Step}
 use Rattle.control_request.specs.declared.advance.Step.TheVariants as step
 use Rattle.control_table.specs.declared.ask.ControlAsk.{ControlAsk}
 use Rattle.control_table.specs.declared.ask.ControlAsk.TheVariants as ask
-use Rattle.history.specs.Event.{Event, History, Admit, Command, Advance}
+use Rattle.history.specs.Event.{Event, History, Admit, Command, Advance, Request}
 use Rattle.history.specs.History.{reply_to, world_of}
 use Rattle.history.specs.World.{Made}
 use Rattle.history.specs.declared.reply.Reply.{Reply}
@@ -263,14 +263,14 @@ refresh_none moment (Thronged count) = (refl, tt)
 refresh_none moment (Gathered refresh made tree at line) = (refl, (refl, tt))
 refresh_none moment (Ungathered refresh made at line) = (refl, (refl, tt))
 
-content_none : (asked : Asked) (place : Place) (moment : ℕ) (answer : Answer) (taken : ℕ) (course : ContentCourse) → CreatesNone (content_calls (Admit asked place moment) answer taken course)
-content_none asked place moment answer taken NoPlace = tt
-content_none asked place moment answer taken (Crowded count) = tt
-content_none asked place moment answer taken (Full count) = (refl, tt)
-content_none asked place moment answer taken (Barred delivery rule at line) = (refl, (refl, tt))
-content_none asked place moment answer taken (Kept delivery fetch kind body at line) = (refl, (refl, tt))
-content_none asked place moment answer taken (Brought delivery fetch plan made how ended closed at line) = (refl, (refl, (refl, tt)))
-content_none asked place moment answer taken (Short delivery fetch plan made how ended closed at line) = (refl, (refl, (refl, tt)))
+content_none : (request : Request) (moment : ℕ) (answer : Answer) (taken : ℕ) (course : ContentCourse) → CreatesNone (content_calls (Admit request moment) answer taken course)
+content_none request moment answer taken NoPlace = tt
+content_none request moment answer taken (Crowded count) = tt
+content_none request moment answer taken (Full count) = (refl, tt)
+content_none request moment answer taken (Barred delivery rule at line) = (refl, (refl, tt))
+content_none request moment answer taken (Kept delivery fetch kind body at line) = (refl, (refl, tt))
+content_none request moment answer taken (Brought delivery fetch plan made how ended closed at line) = (refl, (refl, (refl, tt)))
+content_none request moment answer taken (Short delivery fetch plan made how ended closed at line) = (refl, (refl, (refl, tt)))
 
 -- ---- all requests
 
@@ -282,7 +282,7 @@ turn_rests settings place last d after (inr (inr (inr served))) =
     subst (λ (x : Doing). RestsOrBreaks x.calls after) (sym served.whole.is) (elim served.answers [
       | inl control ↦ serves_rest settings served.asked served.whole.content _ served.inner after control.1
       | inr content ↦ let k = content.1 in
-          inl (subst AllRest (sym k.calls) (rests_none (refresh_calls _ k.how ++ content_calls _ k.answer _ k.course) (none_then (refresh_calls _ k.how) (content_calls _ k.answer _ k.course) (refresh_none _ k.how) (content_none served.asked place _ k.answer _ k.course))))
+          inl (subst AllRest (sym k.calls) (rests_none (refresh_calls _ k.how ++ content_calls _ k.answer _ k.course) (none_then (refresh_calls _ k.how) (content_calls _ k.answer _ k.course) (refresh_none _ k.how) (content_none _ _ k.answer _ k.course))))
     ])
 
 abbrev end_in : Next → Option Ending

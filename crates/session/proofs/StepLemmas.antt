@@ -4,12 +4,11 @@ use Rattle.std.specs.List.{list_all, list_any}
 use Rattle.std.proofs.lemmas.Bool.{and_from, and_parts, both_ways, eq-eqb, eqb-true, false_from_ne_true, not-true, or_from}
 use Rattle.std.proofs.lemmas.List.Folds.{list_all-append}
 use Rattle.std.proofs.lemmas.Option.{none-some, same_Some}
-use Rattle.cdni_base.specs.declared.asked.Asked.{Asked}
 use Rattle.content_request.specs.Course.{Course, NoRoom, Crowded, Full, Barred, Kept, Brought, Short, course_calls}
 use Rattle.content_request.specs.Refresh.{Refreshing, NoBegin, NotDue, Crowded as Thronged, Gathered, Ungathered, refresh_calls}
 use Rattle.control_request.proofs.CallLemmas.{IsControlEvent, serves_have}
 use Rattle.history.specs.After.{begun_fetch, begun_refresh, created_trigger}
-use Rattle.history.specs.Event.{Entry, Event, History, Admit, FetchEnd, Finish, RefreshBegin, RefreshEnd, Command, Advance, Cancel, Delete, ReadStatus, Lists, Cut, LogFile, ListLogs, DropLog}
+use Rattle.history.specs.Event.{Entry, Event, History, Admit, FetchEnd, Finish, RefreshBegin, RefreshEnd, Command, Advance, Cancel, Delete, ReadStatus, Lists, Cut, LogFile, ListLogs, DropLog, Request}
 use Rattle.history.specs.History.{reply_to}
 use Rattle.history.specs.Laws.{HasBegun, ends_fetch, ends_refresh}
 use Rattle.history.specs.World.{Made}
@@ -68,7 +67,7 @@ module _ (pass : ℕ) where
   )
 
   control_steps : (event : Event) (line : Reply) → IsControlEvent event → AllStepsEnd pass ((event, line) ∷ [])
-  control_steps (Admit asked place moment) line is = absurd is
+  control_steps (Admit request moment) line is = absurd is
   control_steps (FetchEnd fetch outcome moment) line is = absurd is
   control_steps (Finish delivery status total entity moment) line is = absurd is
   control_steps (RefreshBegin moment) line is = absurd is
@@ -114,14 +113,14 @@ module _ (pass : ℕ) where
   refresh_steps moment (Gathered refresh made tree at line) = ((refl, refl), ((refl, refl), tt))
   refresh_steps moment (Ungathered refresh made at line) = ((refl, refl), ((refl, refl), tt))
 
-  course_steps : (asked : Asked) (place : Place) (moment : ℕ) (answer : Answer) (taken : ℕ) (course : Course) → NoSteps (course_calls (Admit asked place moment) answer taken course)
-  course_steps asked place moment answer taken NoRoom = tt
-  course_steps asked place moment answer taken (Crowded count) = tt
-  course_steps asked place moment answer taken (Full count) = ((refl, refl), tt)
-  course_steps asked place moment answer taken (Barred delivery rule at line) = ((refl, refl), ((refl, refl), tt))
-  course_steps asked place moment answer taken (Kept delivery fetch kind body at line) = ((refl, refl), ((refl, refl), tt))
-  course_steps asked place moment answer taken (Brought delivery fetch plan made how ended closed at line) = ((refl, refl), ((refl, refl), ((refl, refl), tt)))
-  course_steps asked place moment answer taken (Short delivery fetch plan made how ended closed at line) = ((refl, refl), ((refl, refl), ((refl, refl), tt)))
+  course_steps : (request : Request) (moment : ℕ) (answer : Answer) (taken : ℕ) (course : Course) → NoSteps (course_calls (Admit request moment) answer taken course)
+  course_steps request moment answer taken NoRoom = tt
+  course_steps request moment answer taken (Crowded count) = tt
+  course_steps request moment answer taken (Full count) = ((refl, refl), tt)
+  course_steps request moment answer taken (Barred delivery rule at line) = ((refl, refl), ((refl, refl), tt))
+  course_steps request moment answer taken (Kept delivery fetch kind body at line) = ((refl, refl), ((refl, refl), tt))
+  course_steps request moment answer taken (Brought delivery fetch plan made how ended closed at line) = ((refl, refl), ((refl, refl), ((refl, refl), tt)))
+  course_steps request moment answer taken (Short delivery fetch plan made how ended closed at line) = ((refl, refl), ((refl, refl), ((refl, refl), tt)))
 
   turn_steps : (settings : Settings) (place : Place) (last : Bool) (d : Doing) (after : Next) → Turn settings place last d after → AllStepsEnd pass d.calls
   turn_steps settings place last d after (inl (end, is, none)) = subst (AllStepsEnd pass) (sym none.calls) tt
@@ -132,7 +131,7 @@ module _ (pass : ℕ) where
         | inl control ↦ serves_have (AllStepsEnd pass) tt steps_then control_steps still_step fetched_step gathered_step settings served.asked served.whole.content _ served.inner after control.1
         | inr content ↦ let k = content.1 in
             subst (AllStepsEnd pass) (sym k.calls) (steps_then (refresh_calls _ k.how) (course_calls _ k.answer _ k.course) (no_steps_end (refresh_calls _ k.how) (refresh_steps _ k.how))
-            (no_steps_end (course_calls _ k.answer _ k.course) (course_steps served.asked place _ k.answer _ k.course)))
+            (no_steps_end (course_calls _ k.answer _ k.course) (course_steps _ _ k.answer _ k.course)))
       ])
 
   pub runs_steps : (settings : Settings) (place : Place) (n : ℕ) (done : Doing) (turns : List Doing) (end : Ending) (all : Doing) → AllStepsEnd pass done.calls → Runs settings place n done turns end all → AllStepsEnd pass all.calls
@@ -260,7 +259,7 @@ module _ (given : Reply → Option ℕ) (ends : ℕ → ℕ → Entry → Bool) 
 -- the call is a step of this trigger that is answered so
 pub is_step : (so : Reply → Bool) (id : ℕ) (event : Event) (answer : Reply) → steps_so so id (event, answer) ≡ true → (moment : ℕ) × (event ≡ Advance id moment) × (so answer ≡ true)
 is_step so id (Advance other moment) answer is = let both = and_parts (other == id) (so answer) is in (moment, ap (λ (n : ℕ). Advance n moment) (eqb-true other id both.0), both.1)
-is_step so id (Admit asked place moment) answer is = absurd (both_ways false refl is)
+is_step so id (Admit request moment) answer is = absurd (both_ways false refl is)
 is_step so id (FetchEnd fetch outcome moment) answer is = absurd (both_ways false refl is)
 is_step so id (Finish delivery status total entity moment) answer is = absurd (both_ways false refl is)
 is_step so id (RefreshBegin moment) answer is = absurd (both_ways false refl is)
@@ -279,7 +278,7 @@ is_step so id (DropLog number) answer is = absurd (both_ways false refl is)
 new_created : (event : Event) (answer : Reply) (id : ℕ) → new_trigger (event, answer) ≡ Some id → created_trigger answer ≡ Some id
 new_created (Command spec moment) answer id is = is
 new_created (Advance other moment) answer id is = absurd (none-some id is)
-new_created (Admit asked place moment) answer id is = absurd (none-some id is)
+new_created (Admit request moment) answer id is = absurd (none-some id is)
 new_created (FetchEnd fetch outcome moment) answer id is = absurd (none-some id is)
 new_created (Finish delivery status total entity moment) answer id is = absurd (none-some id is)
 new_created (RefreshBegin moment) answer id is = absurd (none-some id is)

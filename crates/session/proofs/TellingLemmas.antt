@@ -1,7 +1,7 @@
 -- What the end of a delivery tells of its answer.
 use Rattle.std.proofs.Common.{◌≡◌, ℕ, ◌-◌, ◌+◌, ◌<◌, ◌==◌, Bool, true, false, List, [], ◌∷◌, ◌++◌, length, refl, sym, ◌∙◌, ap, subst, arith, cond, IsTrue, inl, inr}
 use Rattle.cdni_base.specs.declared.asked.Asked.{Asked}
-use Rattle.history.specs.Event.{Admit}
+use Rattle.history.specs.Event.{Admit, Request, request_of}
 use Rattle.location_acl.specs.declared.footprint.Place.{Place}
 use Rattle.targets.specs.declared.target.Target.{Target}
 use Rattle.upstream_gate.specs.declared.outcome.Outcome.{Outcome}
@@ -40,21 +40,21 @@ refresh_tells answer taken moment (Thronged count) = (tt, tt)
 refresh_tells answer taken moment (Gathered refresh made tree at line) = (tt, (tt, tt))
 refresh_tells answer taken moment (Ungathered refresh made at line) = (tt, (tt, tt))
 
-course_tells : (asked : Asked) (place : Place) (moment : ℕ) (answer : Answer) (taken : ℕ) (course : Course) → AllTellOf answer taken (course_calls (Admit asked place moment) answer taken course)
-course_tells asked place moment answer taken NoRoom = tt
-course_tells asked place moment answer taken (Crowded count) = tt
-course_tells asked place moment answer taken (Full count) = (tt, tt)
-course_tells asked place moment answer taken (Barred delivery rule at line) = (tt, ((refl, refl, refl), tt))
-course_tells asked place moment answer taken (Kept delivery fetch kind body at line) = (tt, ((refl, refl, refl), tt))
-course_tells asked place moment answer taken (Brought delivery fetch plan made how ended closed at line) = (tt, (tt, ((refl, refl, refl), tt)))
-course_tells asked place moment answer taken (Short delivery fetch plan made how ended closed at line) = (tt, (tt, ((refl, refl, refl), tt)))
+course_tells : (request : Request) (moment : ℕ) (answer : Answer) (taken : ℕ) (course : Course) → AllTellOf answer taken (course_calls (Admit request moment) answer taken course)
+course_tells request moment answer taken NoRoom = tt
+course_tells request moment answer taken (Crowded count) = tt
+course_tells request moment answer taken (Full count) = (tt, tt)
+course_tells request moment answer taken (Barred delivery rule at line) = (tt, ((refl, refl, refl), tt))
+course_tells request moment answer taken (Kept delivery fetch kind body at line) = (tt, ((refl, refl, refl), tt))
+course_tells request moment answer taken (Brought delivery fetch plan made how ended closed at line) = (tt, (tt, ((refl, refl, refl), tt)))
+course_tells request moment answer taken (Short delivery fetch plan made how ended closed at line) = (tt, (tt, ((refl, refl, refl), tt)))
 
 pub content_tells : (root : Target) (asked : Asked) (place : Place) (manner : Manner) (d : Doing) (after : Next) (content : Content root asked place manner d after)
     → AllTellOf content.answer (length d.written) d.calls
 content_tells root asked place manner d after content =
     subst (AllTellOf content.answer (length d.written)) (sym content.calls)
     (all_then content.answer (length d.written) (refresh_calls manner.moment content.how) _ (refresh_tells content.answer (length d.written) manner.moment content.how)
-    (course_tells asked place manner.moment content.answer (length d.written) content.course))
+    (course_tells (request_of asked place manner.extra) manner.moment content.answer (length d.written) content.course))
 
 -- a bad gateway
 failure_status : (manner : Manner) (how : Outcome) (answer : Answer) → IsFailure how → IsShown (brought_shown manner how) answer → answer.status ≡ 502

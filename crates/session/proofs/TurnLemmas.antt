@@ -5,6 +5,7 @@ use Rattle.std.specs.Io.KnownBytes.{IsAtEnd}
 use Rattle.std.proofs.lemmas.Option.{none-some, same_Some}
 use Rattle.cdni_base.specs.declared.asked.Asked.{Asked}
 use Rattle.cdni_base.specs.declared.date.TheConstants.{DATE_END}
+use Rattle.cdni_log.specs.declared.field.Field.{Field}
 use Rattle.edge_base.specs.Clock.{Grows}
 use Rattle.history.specs.Event.{History}
 use Rattle.std.proofs.lemmas.Bool.{cases_lt}
@@ -56,16 +57,16 @@ some_pair None manner pair e = absurd (none-some _ (sym e))
 some_pair (Some a) manner pair e =
     let same : pair ≡ with_manner manner a = same_Some _ _ e in (ap (λ (x : Asked × Manner). Some x.0) (sym same), ap (λ (x : Asked × Manner). x.1) same)
 
-pub read_some : (over : Protocol) (moment : ℕ) (last : Bool) (head : HeadParts) (pair : Asked × Manner) → Some pair ≡ read_of over moment last head
-    → (asked_of over head ≡ Some pair.0) × (pair.1 ≡ manner_of head moment last)
-read_some over moment last head pair e = some_pair (asked_of over head) (manner_of head moment last) pair e
+pub read_some : (over : Protocol) (fields : List Field) (moment : ℕ) (last : Bool) (head : HeadParts) (pair : Asked × Manner) → Some pair ≡ read_of over fields moment last head
+    → (asked_of over head ≡ Some pair.0) × (pair.1 ≡ manner_of fields head moment last)
+read_some over fields moment last head pair e = some_pair (asked_of over head) (manner_of fields head moment last) pair e
 
 no_pair : (found : Option Asked) (manner : Manner) → None ≡ option_map (with_manner manner) found → found ≡ None
 no_pair None manner e = refl
 no_pair (Some a) manner e = absurd (none-some _ e)
 
-pub read_none : (over : Protocol) (moment : ℕ) (last : Bool) (head : HeadParts) → None ≡ read_of over moment last head → asked_of over head ≡ None
-read_none over moment last head e = no_pair (asked_of over head) (manner_of head moment last) e
+pub read_none : (over : Protocol) (fields : List Field) (moment : ℕ) (last : Bool) (head : HeadParts) → None ≡ read_of over fields moment last head → asked_of over head ≡ None
+read_none over fields moment last head e = no_pair (asked_of over head) (manner_of fields head moment last) e
 
 -- what a turn does, with what is told of it
 abbrev pub Turned : Who → (History → Type 0) → (History → Type 0) → Option (List ℕ) → Option (List ℕ) → Option (List Exchange) → Option (List Exchange) → ℕ → ℕ → Option (List ℕ) → Option (List ℕ) → Option (List ℕ) → Option (List ℕ) → List ℕ → List ℕ → Settings → Place → Bool → Next → Type 0
@@ -223,7 +224,7 @@ answered_free left inbox settings place asked body manner d after (inr content) 
 
 -- the request was read whole, and served
 pub served : (front body : List ℕ) (who : Who) (a b : History → Type 0) (g g' g'' : Option (List ℕ)) (t t' : Option (List Exchange)) (f f' : ℕ) (k k' : Option (List ℕ)) (left left' : Option (List ℕ)) (inbox inbox' : List ℕ) (settings : Settings) (place : Place) (last : Bool) (head : HeadParts) (moment : ℕ) (asked : Asked) (manner : Manner) (after : Next) (d : Doing)
-    → Spells front head → asked_of settings.protocol head ≡ Some asked → manner ≡ manner_of head (capped moment) last → framing_of head.headers ≡ framing.Length (length body) → length body ≤ BODY_LIMIT
+    → Spells front head → asked_of settings.protocol head ≡ Some asked → manner ≡ manner_of settings.fields head (capped moment) last → framing_of head.headers ≡ framing.Length (length body) → length body ≤ BODY_LIMIT
     → Grows g g' (moment ∷ []) → Moves left left' inbox inbox' body → Answers settings place asked body manner d after → Does who Any a b g' g'' t t' k k' d → CountsFaults f f' d.calls
     → TurnedBehind front who a b g g'' t t' f f' k k' left left' inbox inbox' settings place last after
 served front body who a b g g' g'' t t' f f' k k' left left' inbox inbox' settings place last head moment asked manner after d spells asks manners framed within grows moves answers does counts = (
@@ -326,13 +327,13 @@ refused_head asked told is = subst (λ (x : Option Asked). IsRefused x told cons
 pub refused_body : (asked : Option Asked) (some : Asked) (told : Framing) (which : Constant) → asked ≡ Some some → IsRefusedBody told which → IsRefused asked told which
 refused_body asked some told which is refuses = subst (λ (x : Option Asked). IsRefused x told which) (sym is) refuses
 
-pub manner_at : (head : HeadParts) (moment read : ℕ) (last : Bool) (manner : Manner) → manner ≡ manner_of head moment last → moment ≡ capped read → manner ≡ manner_of head (capped read) last
-manner_at head moment read last manner is at = is ∙ ap (λ (m : ℕ). manner_of head m last) at
+pub manner_at : (fields : List Field) (head : HeadParts) (moment read : ℕ) (last : Bool) (manner : Manner) → manner ≡ manner_of fields head moment last → moment ≡ capped read → manner ≡ manner_of fields head (capped read) last
+manner_at fields head moment read last manner is at = is ∙ ap (λ (m : ℕ). manner_of fields head m last) at
 
 -- a request is answered with the date at which it was read
-moment_of : (head : HeadParts) (moment : ℕ) (last : Bool) → (manner_of head moment last).moment ≡ moment
+moment_of : (fields : List Field) (head : HeadParts) (moment : ℕ) (last : Bool) → (manner_of fields head moment last).moment ≡ moment
 unfolding manner_of
-moment_of head moment last = refl
+moment_of fields head moment last = refl
 
-pub dated : (head : HeadParts) (moment : ℕ) (last : Bool) (manner : Manner) → manner ≡ manner_of head moment last → moment < DATE_END → manner.moment < DATE_END
-dated head moment last manner is within = subst (λ (n : ℕ). n < DATE_END) (sym (ap (λ (m : Manner). m.moment) is ∙ moment_of head moment last)) within
+pub dated : (fields : List Field) (head : HeadParts) (moment : ℕ) (last : Bool) (manner : Manner) → manner ≡ manner_of fields head moment last → moment < DATE_END → manner.moment < DATE_END
+dated fields head moment last manner is within = subst (λ (n : ℕ). n < DATE_END) (sym (ap (λ (m : Manner). m.moment) is ∙ moment_of fields head moment last)) within

@@ -9,12 +9,12 @@ use Rattle.session_base.specs.Doing.{Called}
 
 -- the delivery that a call has opened
 abbrev pub opened_delivery : Called → Option ℕ
-opened_delivery (Admit asked place moment, answer) = begun_delivery answer
+opened_delivery (Admit request moment, answer) = begun_delivery answer
 opened_delivery call = None
 
 -- the fetch
 abbrev pub opened_fetch : Called → Option ℕ
-opened_fetch (Admit asked place moment, answer) = begun_fetch answer
+opened_fetch (Admit request moment, answer) = begun_fetch answer
 opened_fetch (Advance id moment, answer) = begun_fetch answer
 opened_fetch call = None
 

@@ -13,7 +13,7 @@ use Rattle.session_base.specs.declared.manner.Manner.{Manner}
 
 -- the limit that a call of a request is answered with; the steps of a trigger are none
 abbrev pub reached_limit : Called → Option ℕ
-reached_limit (Admit asked place moment, answer) = full_count answer
+reached_limit (Admit request moment, answer) = full_count answer
 reached_limit (RefreshBegin moment, answer) = full_count answer
 reached_limit (Command spec moment, answer) = full_count answer
 reached_limit (Cut moment, answer) = full_count answer

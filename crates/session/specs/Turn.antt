@@ -136,7 +136,7 @@ pub record Served (settings : Settings) (place : Place) (last : Bool) (d : Doing
   pub moment : ℕ
   pub inner : Doing
   pub whole : Whole settings asked head moment inner d
-  pub answers : Answers settings place asked whole.content (manner_of head (capped moment) last) inner after
+  pub answers : Answers settings place asked whole.content (manner_of settings.fields head (capped moment) last) inner after
 
 -- a request, which may be the last of its connection, or why there is none; and what follows
 abbrev pub Turn : Settings → Place → Bool → Doing → Next → Type 0

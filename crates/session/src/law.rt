@@ -79,8 +79,8 @@ pub fn a_bad_gateway_comes_of_nothing_else()
         → content.answer.status ≡ 502 → BroughtNothing content.course }
 {}
 
-/// A session ends in `Turns` exactly where 1,000 requests were answered in it, and in `Closed` only where fewer were.
-pub fn a_thousand_answers_end_a_session()
+/// A session ends in `Turns` exactly where 10,000 requests were answered in it, and in `Closed` only where fewer were.
+pub fn the_last_turn_ends_a_session()
     ensures turns { (settings : Settings) (place : Place) (d : Doing) (end : Ending)
         → (session : Session settings place d end)
         → (end ≡ ending.Turns) ↔ (answered session.0 end ≡ TURNS_MAX) }

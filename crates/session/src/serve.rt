@@ -12,8 +12,8 @@ ghost use Rattle.session.specs.Session.{Leaves, Session};
 use crate::full_law::a_reached_limit_is_answered;
 use crate::law::{
     a_bad_gateway_comes_of_nothing_else, a_fetch_that_brings_nothing_is_a_bad_gateway,
-    a_request_for_content_is_answered_whole, a_thousand_answers_end_a_session,
-    each_delivery_of_a_session_has_its_row, the_end_of_a_delivery_tells_what_was_written,
+    a_request_for_content_is_answered_whole, each_delivery_of_a_session_has_its_row,
+    the_end_of_a_delivery_tells_what_was_written, the_last_turn_ends_a_session,
     what_is_opened_is_ended,
 };
 use crate::turn::serve_one;
@@ -27,17 +27,17 @@ use std::thread::Threads;
 use upstream_gate::Gate;
 
 /// The most requests of a connection.
-pub const TURNS_MAX: u64 = 1000;
+pub const TURNS_MAX: u64 = 10_000;
 
-/// Serves one connection (RFC 9112): reads its requests one after the other, 1,000 at most, and answers each, with the
+/// Serves one connection (RFC 9112): reads its requests one after the other, 10,000 at most, and answers each, with the
 /// home's calls in between. Each delivery that is admitted is finished, and each fetch and refresh that is begun is ended.
 ///
 /// * `Ended`: the source gave its end with no byte of a next request taken.
-/// * `Closed`: the last request says that the connection closes, and fewer than 1,000 were answered.
+/// * `Closed`: the last request says that the connection closes, and fewer than 10,000 were answered.
 /// * `BadHead`: so many bytes begin no head within the limits, and were answered 400.
 /// * `CutShort`: the source ended within a head or a body, after so many bytes of it.
 /// * `ReadFault`, `WriteFault`: only where that object's count of faults rose; the first fault ends the session.
-/// * `Turns`: exactly where 1,000 requests were answered.
+/// * `Turns`: exactly where 10,000 requests were answered.
 /// * `Memory`: want of memory.
 pub fn serve_session<R: Threads + Wait + Sync, H: Home, S: Source, K: Sink, G: Gate, C: Clock>(
     rt: &R,
@@ -70,7 +70,7 @@ pub fn serve_session<R: Threads + Wait + Sync, H: Home, S: Source, K: Sink, G: G
     a_fetch_that_brings_nothing_is_a_bad_gateway();
     a_bad_gateway_comes_of_nothing_else();
     a_request_for_content_is_answered_whole();
-    a_thousand_answers_end_a_session();
+    the_last_turn_ends_a_session();
     each_delivery_of_a_session_has_its_row();
     a_reached_limit_is_answered();
     let Ok((mut inbox, mut room)) = make_room(alloc) else {

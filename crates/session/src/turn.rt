@@ -123,7 +123,14 @@ fn serve_head<R: Threads + Wait + Sync, H: Home, S: Source, K: Sink, G: Gate, C:
     ensures read { result ≡ Next.Stops Ending.ReadFault → Rose (S.faults source.old) (S.faults source.new) }
 {
     let moment = read_clock(clock);
-    match read_request(alloc, head, settings.protocol, moment, last) {
+    match read_request(
+        alloc,
+        head,
+        settings.protocol,
+        &settings.fields,
+        moment,
+        last,
+    ) {
         Ok(Some((asked, manner))) => match body_of(alloc, source, inbox, head, BODY_LIMIT) {
             BodyRead::Body(body) => serve_whole(
                 rt,

@@ -65,7 +65,7 @@ module _ (given : Reply → Option ℕ) (ends : ℕ → ℕ → Entry → Bool) 
   }
 
 pub own_delivery : IsOwn ends_delivery
-own_delivery number pass (by, (Admit asked place moment)) p = absurd (both_ways _ refl p)
+own_delivery number pass (by, (Admit request moment)) p = absurd (both_ways _ refl p)
 own_delivery number pass (by, (FetchEnd fetch outcome moment)) p = absurd (both_ways _ refl p)
 own_delivery number pass (by, (Finish delivery status total entity moment)) p = eqb-true by pass (and_parts (delivery == number) (by == pass) p).1
 own_delivery number pass (by, (RefreshBegin moment)) p = absurd (both_ways _ refl p)
@@ -82,7 +82,7 @@ own_delivery number pass (by, ListLogs) p = absurd (both_ways _ refl p)
 own_delivery number pass (by, (DropLog file)) p = absurd (both_ways _ refl p)
 
 pub own_fetch : IsOwn ends_fetch
-own_fetch number pass (by, (Admit asked place moment)) p = absurd (both_ways _ refl p)
+own_fetch number pass (by, (Admit request moment)) p = absurd (both_ways _ refl p)
 own_fetch number pass (by, (FetchEnd fetch outcome moment)) p = eqb-true by pass (and_parts (fetch == number) (by == pass) p).1
 own_fetch number pass (by, (Finish delivery status total entity moment)) p = absurd (both_ways _ refl p)
 own_fetch number pass (by, (RefreshBegin moment)) p = absurd (both_ways _ refl p)
@@ -99,7 +99,7 @@ own_fetch number pass (by, ListLogs) p = absurd (both_ways _ refl p)
 own_fetch number pass (by, (DropLog file)) p = absurd (both_ways _ refl p)
 
 pub own_refresh : IsOwn ends_refresh
-own_refresh number pass (by, (Admit asked place moment)) p = absurd (both_ways _ refl p)
+own_refresh number pass (by, (Admit request moment)) p = absurd (both_ways _ refl p)
 own_refresh number pass (by, (FetchEnd fetch outcome moment)) p = absurd (both_ways _ refl p)
 own_refresh number pass (by, (Finish delivery status total entity moment)) p = absurd (both_ways _ refl p)
 own_refresh number pass (by, (RefreshBegin moment)) p = absurd (both_ways _ refl p)

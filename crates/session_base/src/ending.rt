@@ -8,7 +8,7 @@ ghost use Rattle.session_base.specs.Ending.{next_of};
 pub enum Ending {
     /// The source gave its end with no byte of a next request.
     Ended,
-    /// The last request, or its answer, says that the connection closes, and fewer than 1,000 were answered.
+    /// The last request, or its answer, says that the connection closes, and fewer than 10,000 were answered.
     Closed,
     /// So many bytes do not begin with a head within the limits, and were answered 400.
     BadHead { taken: u64 },
@@ -18,7 +18,7 @@ pub enum Ending {
     ReadFault,
     /// The sink failed.
     WriteFault,
-    /// 1,000 requests were answered.
+    /// 10,000 requests were answered.
     Turns,
     /// Want of memory.
     Memory,

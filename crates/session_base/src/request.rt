@@ -1,12 +1,13 @@
 //! What a head asks for.
 
-ghost use Rattle.std.specs.Prelude.{◌≡◌, IfOk, codes};
+ghost use Rattle.std.specs.Prelude.{◌≡◌, ◌++◌, IfOk, OnOk, codes};
 ghost use Rattle.http_wire.specs.Fields.{values_of};
-ghost use Rattle.session_base.specs.Request.{asked_of, manner_of, read_of, target_in, want_in, says_close};
+ghost use Rattle.session_base.specs.Request.{asked_of, extra_in, extra_of, extra_value, manner_of, read_of, target_in, want_in, says_close};
 
 use crate::manner::Manner;
 use byte_range::{Want, read};
 use cdni_base::{Asked, Moment, Protocol, Target, TargetFault, Text};
+use cdni_log::{Extra, ExtraList, Field, FieldList, logged_value};
 use field_list::{Told, told_by};
 use http_wire::{Found, Head};
 use std::alloc::{AllocError, Global};
@@ -15,19 +16,20 @@ use std::marker::Model;
 /// The most bytes of a method.
 pub const METHOD_MAX: usize = 127;
 
-/// What is asked for by this head, and how it is to be answered; `None` where the head is answered 400, since Host is
+/// What is asked for by this head, how it is to be answered, and what its record has of it; `None` where the head is answered 400, since Host is
 /// repeated, or absent where the target is not absolute, or the target does not read, or the method is too long.
 pub fn read_request(
     alloc: Global,
     head: &Head,
     protocol: Protocol,
+    fields: &FieldList,
     moment: Moment,
     last: bool,
 ) -> Result<Option<(Asked, Manner)>, AllocError>
-    ensures { IfOk result (λ read. read ≡ read_of protocol moment last head.now) }
+    ensures { IfOk result (λ read. read ≡ read_of protocol fields.now moment last head.now) }
 {
     match read_asked(alloc, head, protocol)? {
-        Some(asked) => Ok(Some((asked, manner_of(head, moment, last)))),
+        Some(asked) => Ok(Some((asked, manner_of(alloc, head, fields, moment, last)?))),
         None => Ok(None),
     }
 }
@@ -66,18 +68,62 @@ fn read_target(alloc: Global, head: &Head, secure: bool) -> Result<Option<Target
     }
 }
 
-// how the request is to be answered
+// how the request is to be answered, and what its record has of its head
 #[tactic(auto, unfolding(crate::specs::Request::manner_of))]
-fn manner_of(head: &Head, moment: Moment, last: bool) -> Manner
-    ensures { result ≡ manner_of head.now moment last }
+fn manner_of(
+    alloc: Global,
+    head: &Head,
+    fields: &FieldList,
+    moment: Moment,
+    last: bool,
+) -> Result<Manner, AllocError>
+    ensures { IfOk result (λ manner. manner ≡ manner_of fields.now head.now moment last) }
 {
     let close = says_close(head);
-    Manner {
+    let extra = extra_of(alloc, head, fields)?;
+    Ok(Manner {
         is_head: head.method() == b"HEAD".as_slice(),
         want: want_of(head),
         moment,
         closes: last || close,
         leaves: !last && close,
+        extra,
+    })
+}
+
+// the values of the header fields that are logged
+fn extra_of(alloc: Global, head: &Head, fields: &FieldList) -> Result<ExtraList, AllocError>
+    ensures { IfOk result (λ extra. extra ≡ extra_of fields.now head.now.headers) }
+{
+    let mut extra = ExtraList::new(alloc);
+    'fields: for field in fields.as_slice() {
+        add_extra(alloc, head, field, &mut extra)?;
+    }
+    Ok(extra)
+}
+
+// adds the value of the header field that the field is of, if it is of one
+fn add_extra(
+    alloc: Global,
+    head: &Head,
+    field: &Field,
+    extra: &mut ExtraList,
+) -> Result<(), AllocError>
+    ensures { OnOk result (extra.new ≡ extra.old ++ extra_in head.now.headers field.now) }
+{
+    match field {
+        Field::Header(name) => extra.push(extra_value(alloc, head, name.bytes())?),
+        _ => Ok(()),
+    }
+}
+
+// the value of the header field of this name, where it is there once
+fn extra_value(alloc: Global, head: &Head, name: &[u8]) -> Result<Extra, AllocError>
+    ensures { IfOk result (λ value. value ≡ extra_value (values_of name.now head.now.headers)) }
+{
+    match head.value(name) {
+        Found::One(value) => logged_value(alloc, value),
+        Found::None | Found::Many => Ok(None),
     }
 }
 

@@ -1,6 +1,7 @@
 //! What a session is told of its client and of the node.
 
 use cdni_base::{HostName, Protocol, ProviderId, Target};
+use cdni_log::FieldList;
 use footprints::AdvertSettings;
 use location_acl::Place;
 
@@ -23,4 +24,6 @@ pub struct Settings {
     pub own: ProviderId,
     /// What this CDN tells of itself.
     pub advert: AdvertSettings,
+    /// The fields of each record of its log files, in their order (RFC 7937, section 3.4.1).
+    pub fields: FieldList,
 }

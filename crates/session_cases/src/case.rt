@@ -4,6 +4,7 @@ use crate::telling::{TellingGate, TellingHome};
 use crate::{connection, field};
 use anyhow::bail;
 use cdni_base::{Body, Endpoint, Limits, Protocol, ProviderId, Target, Text, TextList, TypeName};
+use cdni_log::{Field, FieldList, FieldNameFault, default_fields};
 use edge_base::ListClock;
 use history::{Call, Reply};
 use node_core::{Home, Node, OneHome};
@@ -84,12 +85,27 @@ fn gate_of(alloc: Global, case: &Value) -> anyhow::Result<TellingGate<MemoryGate
     })
 }
 
+// The fields of the log files: those that the settings name, or the default ones.
+fn fields_of(alloc: Global, settings: &Value) -> anyhow::Result<FieldList> {
+    let Some(names) = settings.get("fields") else {
+        return Ok(default_fields(alloc)?);
+    };
+    let mut fields = FieldList::new(alloc);
+    for name in field::list_of(names)? {
+        match Field::read(alloc, &field::bytes_of(alloc, name)?) {
+            Ok(field) => fields.push(field)?,
+            Err(FieldNameFault::Unknown | FieldNameFault::Memory) => bail!("a field is unknown"),
+        }
+    }
+    Ok(fields)
+}
+
 fn advert_of(alloc: Global, protocol: Protocol, value: &Value) -> anyhow::Result<AdvertSettings> {
     let mut footprints = TextList::new(alloc);
     for footprint in field::list(value, "footprints")? {
         footprints.push(Text::from_vec(field::bytes_of(alloc, footprint)?))?;
     }
-    match AdvertSettings::new(protocol, footprints) {
+    match AdvertSettings::new(protocol, footprints, fields_of(alloc, value)?) {
         Some(advert) => Ok(advert),
         None => bail!("a footprint does not read"),
     }
@@ -117,12 +133,15 @@ fn settings_of(alloc: Global, value: &Value) -> anyhow::Result<Settings> {
         root,
         own,
         advert: advert_of(alloc, protocol, value)?,
+        fields: fields_of(alloc, value)?,
     })
 }
 
 fn home_of(alloc: Global, case: &Value) -> anyhow::Result<TellingHome<OneHome>> {
     let limits = limits_of(field::get(case, "limits")?)?;
-    let node = Node::new(alloc, &limits, field::text_of(alloc, case, "origin")?)?;
+    let origin = field::text_of(alloc, case, "origin")?;
+    let fields = fields_of(alloc, field::get(case, "settings")?)?;
+    let node = Node::new(alloc, &limits, origin, fields)?;
     Ok(TellingHome {
         home: OneHome { node, number: 0 },
         tells: case.get("silent").is_none(),

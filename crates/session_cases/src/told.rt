@@ -3,6 +3,7 @@
 use crate::field;
 use anyhow::bail;
 use cdni_base::{Asked, Endpoint};
+use cdni_log::Extra;
 use history::{Call, Reply};
 use metadata_objects::Tree;
 use script_line::put_reply_line;
@@ -89,10 +90,12 @@ fn put_delivery_call(alloc: Global, out: &mut Vec<u8>, call: &Call) -> Result<()
         Call::Admit {
             asked,
             place: _,
+            extra,
             moment,
         } => {
             out.extend_from_slice(b"Admit")?;
             put_asked(alloc, out, asked)?;
+            put_extra(out, extra.as_slice())?;
             put_number(alloc, out, *moment)
         }
         Call::Finish {
@@ -111,6 +114,20 @@ fn put_delivery_call(alloc: Global, out: &mut Vec<u8>, call: &Call) -> Result<()
         }
         _ => Ok(()),
     }
+}
+
+// Adds the values of header fields that are logged.
+fn put_extra(out: &mut Vec<u8>, extra: &[Extra]) -> Result<(), AllocError> {
+    for value in extra {
+        match value {
+            Some(value) => {
+                put_word(out, b"=")?;
+                out.extend_from_slice(value.bytes())?;
+            }
+            None => put_word(out, b"-")?,
+        }
+    }
+    Ok(())
 }
 
 // Adds what is asked for.
@@ -348,7 +365,24 @@ fn put_told_admit(alloc: Global, out: &mut Vec<u8>, call: &Value) -> anyhow::Res
     put_bytes(alloc, out, call, "host")?;
     put_field(alloc, out, call, "port")?;
     put_bytes(alloc, out, call, "path")?;
-    put_told_query(alloc, out, call)
+    put_told_query(alloc, out, call)?;
+    put_told_extra(alloc, out, call)
+}
+
+// Adds the values of header fields that the call has, if any are logged.
+fn put_told_extra(alloc: Global, out: &mut Vec<u8>, call: &Value) -> anyhow::Result<()> {
+    let Some(values) = call.get("extra") else {
+        return Ok(());
+    };
+    for value in field::list_of(values)? {
+        if value.is_null() {
+            put_word(out, b"-")?;
+        } else {
+            put_word(out, b"=")?;
+            out.extend_from_slice(&field::bytes_of(alloc, value)?)?;
+        }
+    }
+    Ok(())
 }
 
 // Adds the numbers of a call that has no other fields.

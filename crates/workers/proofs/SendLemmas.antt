@@ -6,6 +6,7 @@ use denote.RattleType.{RattleType}
 use denote.Param.SendFields.{as_row_send, as_row_sync, declared_send, declared_sync}
 use Rattle.std.proofs.Crossing.{crosses}
 use Rattle.history.specs.contracts.call.Call as call
+use Rattle.history.proofs.heading.Heading.TheSendSync as headings
 use Rattle.metadata_objects.specs.contracts.tree.Tree as tree
 use Rattle.metadata_objects.specs.contracts.host.HostIndex as index
 use Rattle.metadata_objects.specs.contracts.host.HostMatch as match
@@ -63,7 +64,7 @@ tree_send : IsSend tree.the_row
 tree_send = declared_send tree.the_type (index_send, (as_row_send (list.the_field key.the_row) (lists.the_send _ keys.the_send), tt))
 
 call_send : IsSend call.the_row
-call_send = search (sendable, crosses, tree_send, outcomes.the_field_send, specs.the_send, askeds.the_field_send) depth 40
+call_send = search (sendable, crosses, tree_send, outcomes.the_field_send, specs.the_send, askeds.the_field_send, lists.the_send, maybes.the_send, texts.the_send) depth 40
 
 entered_send : IsSend entered.the_row
 entered_send = declared_send entered.the_type (search sendable, (call_send, (search (sendable, crosses, needs.the_field_send) depth 20, tt)))
@@ -87,7 +88,7 @@ edge_send : IsSend edge.the_row
 edge_send = search (sendable, crosses, installed_send, limits.the_send, shelves.the_send, records.the_send, refreshes.the_send) depth 40
 
 state_send : IsSend state.the_row
-state_send = search (sendable, crosses, edge_send, controls.the_send, texts.the_send) depth 40
+state_send = search (sendable, crosses, edge_send, controls.the_send, headings.the_field_send) depth 40
 
 pub node_send : IsSend node.the_row
 node_send = search (sendable, crosses, state_send, limits.the_send, journals.the_send, entered_send) depth 40

@@ -1,7 +1,7 @@
 use Rattle.std.proofs.Common.{arith}
 use Rattle.session_base.specs.Doing.{nothing}
 use Rattle.session.proofs.AnsweredLemmas.{answered_below, answered_in_turns, closed_below, only_turns, turns_all, turns_within}
-use Rattle.session.proofs.law.a_thousand_answers_end_a_session.Goals as goal
+use Rattle.session.proofs.law.the_last_turn_ends_a_session.Goals as goal
 
 pub returns-clause-turns : goal.returns-clause-turns
 returns-clause-turns c = λ settings place d end session. (

@@ -4,10 +4,10 @@
 
 mod choice;
 mod exit;
-mod real;
 mod run;
+mod words;
 
 pub use choice::{Choice, choice_of};
 pub use exit::exit_of;
-pub use real::main_of;
 pub use run::run_words;
+pub use words::words_of;

@@ -1,4 +1,5 @@
 pub mod Date
+pub mod Field
 pub mod File
 pub mod HttpParts
 pub mod Line

@@ -2,6 +2,7 @@
 #![tactic(auto)]
 
 mod date;
+mod field;
 mod file;
 pub mod laws;
 mod line;
@@ -9,5 +10,6 @@ pub mod numbers;
 mod record;
 mod row;
 
+pub use field::{Extra, ExtraList, Field, FieldList, FieldNameFault, default_fields};
 pub use file::file_text;
 pub use row::{FileHead, Row, RowList};

@@ -1,5 +1,6 @@
 //! What a log file is made of.
 
+use crate::field::{ExtraList, FieldList};
 use listing::{Moment, ReservedList, Text};
 
 /// What is recorded of one request that was served (RFC 7937, section 3.4.1).
@@ -24,6 +25,8 @@ pub struct Row {
     pub ccid: Option<Text>,
     /// Whether the content was kept when it was asked for.
     pub cached: bool,
+    /// The values of those headers of the request that are fields of the file, in the order of these fields.
+    pub extra: ExtraList,
 }
 
 /// A list of rows, in the order of their deliveries' ends, with places that are reserved for more.
@@ -38,4 +41,6 @@ pub struct FileHead {
     pub moment: Moment,
     /// The host of the CDN that claims to have logged (RFC 7937, section 3.3).
     pub origin: Text,
+    /// The fields of each record, in their order.
+    pub fields: FieldList,
 }

@@ -1,5 +1,5 @@
 -- The fields of a record (RFC 7937, section 3.4.1).
-use Rattle.std.specs.Prelude.{◌≡◌, ℕ, ◌-◌, Bool, List, [], ◌∷◌, ◌++◌, Unit, codes, bytes_eq, drop, length, take, slice_range, None, Some, Ok, Err, ◌==◌, ◌&&◌, ◌||◌, nat_lt, nat_le, if◌then◌else◌}
+use Rattle.std.specs.Prelude.{◌≡◌, ℕ, ◌-◌, Bool, true, false, List, [], ◌∷◌, ◌++◌, codes, bytes_eq, drop, length, take, slice_range, None, Some, Ok, Err, ◌==◌, ◌&&◌, ◌||◌, nat_lt, nat_le, if◌then◌else◌}
 use Rattle.std.specs.Char.{is_ascii_alphanumeric}
 use Rattle.std.specs.List.{list_all, list_any}
 use Rattle.std.specs.Option.{option_map}
@@ -36,6 +36,14 @@ field_name field.EntityBytes = codes "sc-entity-bytes"
 field_name field.Ccid = codes "s-ccid"
 field_name field.Cached = codes "s-cached"
 field_name (field.Header header) = header_field header
+
+abbrev pub is_header : Field → Bool
+is_header (field.Header header) = true
+is_header other = false
+
+-- how many headers a field is
+abbrev pub header_count : Field → ℕ
+header_count column = if is_header column then 1 else 0
 
 -- a byte of a token (RFC 9110, section 5.6.2)
 abbrev pub is_token_byte : ℕ → Bool

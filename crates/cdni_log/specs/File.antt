@@ -1,5 +1,5 @@
 -- Log files (RFC 7937, section 3).
-use Rattle.std.specs.Prelude.{ℕ, List, [], ◌∷◌, ◌++◌, codes, decimal, take}
+use Rattle.std.specs.Prelude.{ℕ, List, ◌++◌, codes, decimal, map, take}
 use Rattle.std.specs.List.{flat_map}
 use Rattle.hex.specs.Hex.{encode_lower}
 use Rattle.sha1.specs.Sha1.{sha1}
@@ -9,8 +9,10 @@ use Rattle.uuid.specs.Text.{lower, urn_text}
 use Rattle.uuid.specs.Uuid.{namespace_url}
 use Rattle.uuid.specs.declared.Variant.TheVariants.{RFC4122}
 use Rattle.uuid.specs.declared.Version.TheVariants.{Sha1}
+use Rattle.cdni_log.specs.declared.field.Field.{Field}
 use Rattle.cdni_log.specs.declared.row.FileHead.{FileHead}
 use Rattle.cdni_log.specs.declared.row.Row.{Row}
+use Rattle.cdni_log.specs.Field.{field_name}
 use Rattle.cdni_log.specs.Line.{directive, quoted, tabbed}
 use Rattle.cdni_log.specs.Row.{record_text}
 
@@ -22,22 +24,19 @@ file_name head = head.origin ++ codes "/" ++ decimal head.number ++ codes "/" ++
 unfoldable pub file_uuid : FileHead → List ℕ
 file_uuid head = with_version (with_variant (take 16 (sha1 (namespace_url ++ file_name head))) RFC4122) Sha1
 
--- the fields of a record (RFC 7937, section 3.4.1), in their order
-abbrev pub field_names : List (List ℕ)
-field_names = codes "date" ∷ codes "time" ∷ codes "time-taken" ∷ codes "c-groupid" ∷ codes "cs-method"
-    ∷ codes "cs-uri" ∷ codes "u-uri" ∷ codes "protocol" ∷ codes "sc-status" ∷ codes "sc-total-bytes"
-    ∷ codes "sc-entity-bytes" ∷ codes "s-ccid" ∷ codes "s-cached" ∷ []
-
 -- which file this is, in three directives (RFC 7937, section 3.3)
 unfoldable pub identity_text : FileHead → List ℕ
 identity_text head = directive (codes "version") (codes "cdni/1.0")
     ++ directive (codes "UUID") (quoted (urn_text lower (file_uuid head)))
     ++ directive (codes "claimed-origin") head.origin
 
+-- the fields of its records, in a directive
+unfoldable pub fields_text : List Field → List ℕ
+fields_text fields = directive (codes "fields") (tabbed (map field_name fields))
+
 -- of what kind its records are, in two directives (RFC 7937, section 3.3)
-unfoldable pub form_text : List ℕ
-form_text = directive (codes "record-type") (codes "cdni_http_request_v1")
-    ++ directive (codes "fields") (tabbed field_names)
+abbrev pub form_text : List Field → List ℕ
+form_text fields = directive (codes "record-type") (codes "cdni_http_request_v1") ++ fields_text fields
 
 -- a text, and behind it the directive with its SHA-256 in hexadecimal digits
 unfoldable pub with_hash : List ℕ → List ℕ
@@ -45,4 +44,5 @@ with_hash text = text ++ directive (codes "SHA256-hash") (encode_lower (sha256 t
 
 -- the file: its directives, one line for each row, in order, and the hash of all that
 unfoldable pub file_text : FileHead → List Row → List ℕ
-file_text head rows = with_hash (identity_text head ++ form_text ++ flat_map record_text rows)
+file_text head rows =
+    with_hash (identity_text head ++ form_text head.fields ++ flat_map (record_text head.fields) rows)

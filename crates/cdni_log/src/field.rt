@@ -1,11 +1,13 @@
 //! The fields of a record (RFC 7937, section 3.4.1).
 
-ghost use Rattle.std.specs.Prelude.{◌≡◌, IfOk, bytes_eq};
+ghost use Rattle.std.specs.Prelude.{◌≡◌, ◌≤◌, ◌++◌, IfOk, OnOk, bytes_eq, map};
 ghost use Rattle.std.specs.List.{list_all};
 ghost use Rattle.std.specs.Option.{option_map};
 ghost use Rattle.std.specs.Str.{str_to_ascii_lowercase};
-ghost use Rattle.cdni_log.specs.Field.{plain_field, header_of, is_token, is_token_byte, field_of, default_fields, Reads};
+ghost use Rattle.cdni_log.specs.Line.{tabbed, tabbed_behind};
+ghost use Rattle.cdni_log.specs.Field.{field_name, header_field, header_count, plain_field, header_of, is_token, is_token_byte, field_of, default_fields, Reads};
 
+use crate::line::TAB;
 use listing::{Listing, Text};
 use std::alloc::{AllocError, Global};
 
@@ -63,6 +65,17 @@ pub enum FieldNameFault {
 }
 
 impl Field {
+    // how many headers it is
+    pub(crate) fn header_count(&self) -> usize
+        ensures count { result ≡ header_count self.now }
+        ensures few { result ≤ 1 }
+    {
+        match self {
+            Field::Header(_) => 1,
+            _ => 0,
+        }
+    }
+
     /// The field of this name (RFC 7937, section 3.4.1): one of the thirteen, written as there, or `cs(H)`, where H is
     /// a token (RFC 9110, section 5.6.2) of at most 64 bytes in any case.
     ///
@@ -107,6 +120,60 @@ pub fn default_fields(alloc: Global) -> Result<FieldList, AllocError>
     fields.push(Field::Ccid)?;
     fields.push(Field::Cached)?;
     Ok(fields)
+}
+
+// adds the names of the fields, joined by tabs
+#[tactic(auto, using(crate::proofs::ColumnLemmas::tabbed_is))]
+pub(crate) fn add_names(out: &mut Vec<u8>, fields: &[Field]) -> Result<(), AllocError>
+    ensures { OnOk result (out.new.items ≡ out.old.items ++ tabbed (map field_name fields.now)) }
+{
+    let Some((first, others)) = fields.split_first() else {
+        return Ok(());
+    };
+    add_name(out, first)?;
+    add_names_behind(out, others)
+}
+
+// adds the names of the fields, each behind a tab
+fn add_names_behind(out: &mut Vec<u8>, fields: &[Field]) -> Result<(), AllocError>
+    ensures { OnOk result (out.new.items ≡ out.old.items ++ tabbed_behind (map field_name fields.now)) }
+{
+    'fields: for field in fields {
+        out.extend_from_slice(&[TAB])?;
+        add_name(out, field)?;
+    }
+    Ok(())
+}
+
+// adds the name of the field
+#[tactic(auto, unfolding(crate::specs::Field::field_name))]
+fn add_name(out: &mut Vec<u8>, field: &Field) -> Result<(), AllocError>
+    ensures { OnOk result (out.new.items ≡ out.old.items ++ field_name field.now) }
+{
+    match field {
+        Field::Date => out.extend_from_slice(b"date"),
+        Field::Time => out.extend_from_slice(b"time"),
+        Field::TimeTaken => out.extend_from_slice(b"time-taken"),
+        Field::GroupId => out.extend_from_slice(b"c-groupid"),
+        Field::Method => out.extend_from_slice(b"cs-method"),
+        Field::CsUri => out.extend_from_slice(b"cs-uri"),
+        Field::UUri => out.extend_from_slice(b"u-uri"),
+        Field::Protocol => out.extend_from_slice(b"protocol"),
+        Field::Status => out.extend_from_slice(b"sc-status"),
+        Field::TotalBytes => out.extend_from_slice(b"sc-total-bytes"),
+        Field::EntityBytes => out.extend_from_slice(b"sc-entity-bytes"),
+        Field::Ccid => out.extend_from_slice(b"s-ccid"),
+        Field::Cached => out.extend_from_slice(b"s-cached"),
+        Field::Header(header) => add_header_name(out, header.bytes()),
+    }
+}
+
+fn add_header_name(out: &mut Vec<u8>, header: &[u8]) -> Result<(), AllocError>
+    ensures { OnOk result (out.new.items ≡ out.old.items ++ header_field header.now) }
+{
+    out.extend_from_slice(b"cs(")?;
+    out.extend_from_slice(header)?;
+    out.extend_from_slice(b")")
 }
 
 // the field of this name, where it is one of the thirteen
@@ -154,7 +221,7 @@ fn is(name: &[u8], other: &[u8]) -> bool
 // the header that the name gives, where it is of the form `cs(H)`
 #[tactic(auto, unfolding(crate::specs::Field::header_of))]
 fn header_of(name: &[u8]) -> Option<&[u8]>
-    ensures { option_map str_to_ascii_lowercase result.entry ≡ header_of name.now }
+    ensures { option_map (λ header. str_to_ascii_lowercase header.now) result ≡ header_of name.now }
 {
     if name.len() < 4 {
         return None;

@@ -6,9 +6,10 @@ ghost use Rattle.sha2.specs.Sha256.{sha256};
 ghost use Rattle.uuid.specs.Text.{lower, urn_text};
 ghost use Rattle.cdni_log.specs.Line.{quoted};
 ghost use Rattle.cdni_log.specs.Row.{record_text};
-ghost use Rattle.cdni_log.specs.File.{file_name, file_uuid, identity_text, form_text, with_hash, file_text};
+ghost use Rattle.cdni_log.specs.File.{file_name, file_uuid, identity_text, fields_text, form_text, with_hash, file_text};
 
-use crate::line::add_directive;
+use crate::field::{Field, add_names};
+use crate::line::{add_directive, end_line};
 use crate::record::add_record;
 use crate::row::{FileHead, Row, RowList};
 use listing::Text;
@@ -16,12 +17,8 @@ use sha2::{Digest, Sha256};
 use std::alloc::{AllocError, Global};
 use uuid::Uuid;
 
-// the fields of a record, in their order
-const FIELDS: &[u8] =
-    b"date\ttime\ttime-taken\tc-groupid\tcs-method\tcs-uri\tu-uri\tprotocol\tsc-status\tsc-total-bytes\tsc-entity-bytes\ts-ccid\ts-cached";
-
-/// The text of a log file (RFC 7937, section 3): its directives, one line for each row, in order, and the SHA-256 of
-/// all bytes before. Lines end in CR LF. Each moment is shown in UTC, and one after the year 9999 as the last of that
+/// The text of a log file (RFC 7937, section 3): its directives, of which one names the head's fields,
+/// one line for each row, in order, with the values of these fields, and the SHA-256 of all bytes before. Lines end in CR LF. Each moment is shown in UTC, and one after the year 9999 as the last of that
 /// year. Copies of the text share its bytes.
 ///
 /// # Errors
@@ -32,8 +29,8 @@ pub fn file_text(alloc: Global, head: &FileHead, rows: &RowList) -> Result<Text,
 {
     let mut text = Vec::new(alloc);
     add_identity(alloc, &mut text, head)?;
-    add_form(&mut text)?;
-    add_records(&mut text, rows.as_slice())?;
+    add_form(&mut text, head.fields.as_slice())?;
+    add_records(&mut text, head.fields.as_slice(), rows.as_slice())?;
     add_hash(&mut text)?;
     Text::shared_from_vec(alloc, text)
 }
@@ -50,12 +47,21 @@ fn add_identity(alloc: Global, out: &mut Vec<u8>, head: &FileHead) -> Result<(),
 }
 
 // adds the directives that say of what kind the records are
-#[tactic(auto, unfolding(crate::specs::File::form_text))]
-fn add_form(out: &mut Vec<u8>) -> Result<(), AllocError>
-    ensures { OnOk result (out.new.items ≡ out.old.items ++ form_text) }
+fn add_form(out: &mut Vec<u8>, fields: &[Field]) -> Result<(), AllocError>
+    ensures { OnOk result (out.new.items ≡ out.old.items ++ form_text fields.now) }
 {
     add_directive(out, b"record-type", b"cdni_http_request_v1")?;
-    add_directive(out, b"fields", FIELDS)
+    add_fields(out, fields)
+}
+
+// adds the directive that names the fields
+#[tactic(auto, unfolding(crate::specs::File::fields_text, crate::specs::Line::directive))]
+fn add_fields(out: &mut Vec<u8>, fields: &[Field]) -> Result<(), AllocError>
+    ensures { OnOk result (out.new.items ≡ out.old.items ++ fields_text fields.now) }
+{
+    out.extend_from_slice(b"#fields:\t")?;
+    add_names(out, fields)?;
+    end_line(out)
 }
 
 // the URN of the file's UUID, in quotes
@@ -88,11 +94,11 @@ fn file_name(alloc: Global, head: &FileHead) -> Result<Vec<u8>, AllocError>
 }
 
 // adds the lines of the rows
-fn add_records(out: &mut Vec<u8>, rows: &[Row]) -> Result<(), AllocError>
-    ensures { OnOk result (out.new.items ≡ out.old.items ++ flat_map record_text rows.now) }
+fn add_records(out: &mut Vec<u8>, fields: &[Field], rows: &[Row]) -> Result<(), AllocError>
+    ensures { OnOk result (out.new.items ≡ out.old.items ++ flat_map (record_text fields.now) rows.now) }
 {
     'rows: for row in rows {
-        add_record(out, row)?;
+        add_record(out, fields, row)?;
     }
     Ok(())
 }

@@ -4,4 +4,4 @@ use Rattle.cdni_log.specs.Row.{record_text}
 use Rattle.cdni_log.proofs.file.add_records.Given as goal
 
 abbrev pub invariant-rows : goal.invariant-rows
-invariant-rows l = l.out.items ≡ l.initial.out.items ++ flat_map record_text (take l.row-index l.rows)
+invariant-rows l = l.out.items ≡ l.initial.out.items ++ flat_map (record_text l.fields) (take l.row-index l.rows)

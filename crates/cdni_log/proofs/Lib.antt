@@ -1,3 +1,4 @@
 pub mod ColumnLemmas
 pub mod DateLemmas
 pub mod FixdateLemmas
+pub mod TableLemmas

@@ -1,3 +1,4 @@
+pub mod Columns
 pub mod Date
 pub mod Field
 pub mod File

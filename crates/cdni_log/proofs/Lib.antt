@@ -1,4 +1,6 @@
 pub mod ColumnLemmas
 pub mod DateLemmas
+pub mod ExtraLemmas
+pub mod FieldListLemmas
 pub mod FixdateLemmas
 pub mod TableLemmas

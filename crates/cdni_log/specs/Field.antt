@@ -1,5 +1,5 @@
 -- The fields of a record (RFC 7937, section 3.4.1).
-use Rattle.std.specs.Prelude.{◌≡◌, ℕ, ◌-◌, Bool, true, false, List, [], ◌∷◌, ◌++◌, codes, bytes_eq, drop, length, take, slice_range, None, Some, Ok, Err, ◌==◌, ◌&&◌, ◌||◌, nat_lt, nat_le, if◌then◌else◌}
+use Rattle.std.specs.Prelude.{◌≡◌, ℕ, ◌-◌, Bool, true, false, List, ◌++◌, codes, bytes_eq, drop, length, take, slice_range, None, Some, Ok, Err, ◌==◌, ◌&&◌, ◌||◌, nat_lt, nat_le, if◌then◌else◌}
 use Rattle.std.specs.Char.{is_ascii_alphanumeric}
 use Rattle.std.specs.List.{list_all, list_any}
 use Rattle.std.specs.Option.{option_map}
@@ -10,11 +10,6 @@ use Rattle.cdni_log.specs.declared.field.Field.{Field}
 use Rattle.cdni_log.specs.declared.field.Field.TheVariants as field
 use Rattle.cdni_log.specs.declared.field.FieldNameFault.{FieldNameFault}
 use Rattle.cdni_log.specs.declared.field.FieldNameFault.TheVariants as field_name_fault
-
--- the fields of a record that are no headers, in the order of a file where nothing else is asked for
-abbrev pub default_fields : List Field
-default_fields = field.Date ∷ field.Time ∷ field.TimeTaken ∷ field.GroupId ∷ field.Method ∷ field.CsUri ∷ field.UUri
-    ∷ field.Protocol ∷ field.Status ∷ field.TotalBytes ∷ field.EntityBytes ∷ field.Ccid ∷ field.Cached ∷ []
 
 -- `cs(H)`
 abbrev pub header_field : List ℕ → List ℕ
@@ -88,8 +83,8 @@ or_else (Some a) other = Some a
 abbrev pub field_of : List ℕ → Option Field
 field_of name = or_else (plain_field name) (option_map field.Header (header_of name))
 
--- what was read of a name that is of this field, if of any
-abbrev pub Reads : Result Field FieldNameFault → Option Field → Type 0
-Reads (Ok read) named = named ≡ Some read
-Reads (Err field_name_fault.Unknown) named = named ≡ None
-Reads (Err field_name_fault.Memory) named = Unit {0}
+-- what was read of a text that says this, if anything
+abbrev pub Reads : {A : Type 0} → Result A FieldNameFault → Option A → Type 0
+Reads (Ok read) said = said ≡ Some read
+Reads (Err field_name_fault.Unknown) said = said ≡ None
+Reads (Err field_name_fault.Memory) said = Unit {0}

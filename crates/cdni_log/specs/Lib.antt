@@ -1,6 +1,8 @@
 pub mod Columns
 pub mod Date
+pub mod Extra
 pub mod Field
+pub mod FieldList
 pub mod File
 pub mod HttpParts
 pub mod Line

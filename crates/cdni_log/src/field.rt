@@ -1,21 +1,19 @@
 //! The fields of a record (RFC 7937, section 3.4.1).
 
-ghost use Rattle.std.specs.Prelude.{◌≡◌, ◌≤◌, ◌++◌, IfOk, OnOk, bytes_eq, map};
+ghost use Rattle.std.specs.Prelude.{◌≡◌, ◌≤◌, ◌++◌, OnOk, bytes_eq};
 ghost use Rattle.std.specs.List.{list_all};
 ghost use Rattle.std.specs.Option.{option_map};
 ghost use Rattle.std.specs.Str.{str_to_ascii_lowercase};
-ghost use Rattle.cdni_log.specs.Line.{tabbed, tabbed_behind};
-ghost use Rattle.cdni_log.specs.Field.{field_name, header_field, header_count, plain_field, header_of, is_token, is_token_byte, field_of, default_fields, Reads};
+ghost use Rattle.cdni_log.specs.Field.{field_name, header_field, header_count, is_header, plain_field, header_of, is_token, is_token_byte, field_of, Reads};
 
-use crate::line::TAB;
-use listing::{Listing, Text};
+use listing::Text;
 use std::alloc::{AllocError, Global};
 
 // the longest name of a header whose value can be a field
 const HEADER_MAX: usize = 64;
 
 /// A field of a record (RFC 7937, section 3.4.1).
-#[derive(Clone, Drop)]
+#[derive(Clone, Drop, PartialEq, Eq)]
 pub enum Field {
     /// `date`: the day on which the delivery was finished.
     Date,
@@ -47,15 +45,6 @@ pub enum Field {
     Header(Text),
 }
 
-/// Fields, in the order of their columns.
-pub type FieldList = Listing<Field>;
-
-/// The value of a header of a request, where it had one.
-pub type Extra = Option<Text>;
-
-/// The values of headers of one request, in the order of their fields.
-pub type ExtraList = Listing<Extra>;
-
 /// Why a text was not read as the name of a field.
 pub enum FieldNameFault {
     /// It is the name of no field.
@@ -64,16 +53,31 @@ pub enum FieldNameFault {
     Memory,
 }
 
+impl From<AllocError> for FieldNameFault {
+    ghost use Rattle.std.specs.Prelude.{◌≡◌};
+    ghost use Rattle.cdni_log.specs.declared.field.FieldNameFault.TheVariants as field_name_fault;
+
+    ghost from_gives = { λ _ given. given ≡ field_name_fault.Memory };
+
+    fn from(_error: AllocError) -> FieldNameFault {
+        FieldNameFault::Memory
+    }
+}
+
 impl Field {
+    // whether its value is that of a header
+    pub(crate) fn is_header(&self) -> bool
+        ensures { result ≡ is_header self.now }
+    {
+        matches!(self, Field::Header(_))
+    }
+
     // how many headers it is
     pub(crate) fn header_count(&self) -> usize
         ensures count { result ≡ header_count self.now }
         ensures few { result ≤ 1 }
     {
-        match self {
-            Field::Header(_) => 1,
-            _ => 0,
-        }
+        if self.is_header() { 1 } else { 0 }
     }
 
     /// The field of this name (RFC 7937, section 3.4.1): one of the thirteen, written as there, or `cs(H)`, where H is
@@ -90,64 +94,13 @@ impl Field {
         let Some(header) = header_of(text) else {
             return Err(FieldNameFault::Unknown);
         };
-        match Text::lowered(alloc, header) {
-            Ok(header) => Ok(Field::Header(header)),
-            Err(_) => Err(FieldNameFault::Memory),
-        }
+        Ok(Field::Header(Text::lowered(alloc, header)?))
     }
-}
-
-/// The thirteen fields that are no headers (RFC 7937, section 3.4.1), in the order of a file where nothing else is
-/// asked for.
-///
-/// # Errors
-/// Want of memory.
-pub fn default_fields(alloc: Global) -> Result<FieldList, AllocError>
-    ensures { IfOk result (λ fields. fields ≡ default_fields) }
-{
-    let mut fields = Listing::new(alloc);
-    fields.push(Field::Date)?;
-    fields.push(Field::Time)?;
-    fields.push(Field::TimeTaken)?;
-    fields.push(Field::GroupId)?;
-    fields.push(Field::Method)?;
-    fields.push(Field::CsUri)?;
-    fields.push(Field::UUri)?;
-    fields.push(Field::Protocol)?;
-    fields.push(Field::Status)?;
-    fields.push(Field::TotalBytes)?;
-    fields.push(Field::EntityBytes)?;
-    fields.push(Field::Ccid)?;
-    fields.push(Field::Cached)?;
-    Ok(fields)
-}
-
-// adds the names of the fields, joined by tabs
-#[tactic(auto, using(crate::proofs::ColumnLemmas::tabbed_is))]
-pub(crate) fn add_names(out: &mut Vec<u8>, fields: &[Field]) -> Result<(), AllocError>
-    ensures { OnOk result (out.new.items ≡ out.old.items ++ tabbed (map field_name fields.now)) }
-{
-    let Some((first, others)) = fields.split_first() else {
-        return Ok(());
-    };
-    add_name(out, first)?;
-    add_names_behind(out, others)
-}
-
-// adds the names of the fields, each behind a tab
-fn add_names_behind(out: &mut Vec<u8>, fields: &[Field]) -> Result<(), AllocError>
-    ensures { OnOk result (out.new.items ≡ out.old.items ++ tabbed_behind (map field_name fields.now)) }
-{
-    'fields: for field in fields {
-        out.extend_from_slice(&[TAB])?;
-        add_name(out, field)?;
-    }
-    Ok(())
 }
 
 // adds the name of the field
 #[tactic(auto, unfolding(crate::specs::Field::field_name))]
-fn add_name(out: &mut Vec<u8>, field: &Field) -> Result<(), AllocError>
+pub(crate) fn add_name(out: &mut Vec<u8>, field: &Field) -> Result<(), AllocError>
     ensures { OnOk result (out.new.items ≡ out.old.items ++ field_name field.now) }
 {
     match field {

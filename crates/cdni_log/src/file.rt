@@ -8,7 +8,8 @@ ghost use Rattle.cdni_log.specs.Line.{quoted};
 ghost use Rattle.cdni_log.specs.Row.{record_text};
 ghost use Rattle.cdni_log.specs.File.{file_name, file_uuid, identity_text, fields_text, form_text, with_hash, file_text};
 
-use crate::field::{Field, add_names};
+use crate::field::Field;
+use crate::field_list::add_names;
 use crate::line::{add_directive, end_line};
 use crate::record::add_record;
 use crate::row::{FileHead, Row, RowList};

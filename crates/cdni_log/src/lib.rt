@@ -2,7 +2,9 @@
 #![tactic(auto)]
 
 mod date;
+mod extra;
 mod field;
+mod field_list;
 mod file;
 pub mod laws;
 mod line;
@@ -10,6 +12,8 @@ pub mod numbers;
 mod record;
 mod row;
 
-pub use field::{Extra, ExtraList, Field, FieldList, FieldNameFault, default_fields};
+pub use extra::{Extra, ExtraList, logged_value};
+pub use field::{Field, FieldNameFault};
+pub use field_list::{FieldList, default_fields, read_fields};
 pub use file::file_text;
 pub use row::{FileHead, Row, RowList};

@@ -1,6 +1,7 @@
 //! What a log file is made of.
 
-use crate::field::{ExtraList, FieldList};
+use crate::extra::ExtraList;
+use crate::field_list::FieldList;
 use listing::{Moment, ReservedList, Text};
 
 /// What is recorded of one request that was served (RFC 7937, section 3.4.1).

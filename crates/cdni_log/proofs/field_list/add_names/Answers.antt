@@ -3,7 +3,7 @@ use Rattle.std.proofs.lemmas.Result.{on_ok_weaker}
 use Rattle.cdni_log.specs.Field.{field_name}
 use Rattle.cdni_log.specs.Line.{tabbed}
 use Rattle.cdni_log.proofs.ColumnLemmas.{append_two, tabbed_is}
-use Rattle.cdni_log.proofs.field.add_names.Goals as goal
+use Rattle.cdni_log.proofs.field_list.add_names.Goals as goal
 
 pub returns : goal.returns
 returns c =

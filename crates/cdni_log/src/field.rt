@@ -1,6 +1,6 @@
 //! The fields of a record (RFC 7937, section 3.4.1).
 
-ghost use Rattle.std.specs.Prelude.{◌≡◌, ◌≤◌, ◌++◌, OnOk, bytes_eq};
+ghost use Rattle.std.specs.Prelude.{◌≡◌, ◌≤◌, ◌++◌, IfOk, OnOk, bytes_eq};
 ghost use Rattle.std.specs.List.{list_all};
 ghost use Rattle.std.specs.Option.{option_map};
 ghost use Rattle.std.specs.Str.{str_to_ascii_lowercase};
@@ -65,6 +65,18 @@ impl From<AllocError> for FieldNameFault {
 }
 
 impl Field {
+    /// The name of the field (RFC 7937, section 3.4.1).
+    ///
+    /// # Errors
+    /// Want of memory.
+    pub fn name(&self, alloc: Global) -> Result<Text, AllocError>
+        ensures { IfOk result (λ name. name ≡ field_name self.now) }
+    {
+        let mut name = Vec::new(alloc);
+        add_name(&mut name, self)?;
+        Ok(Text::from_vec(name))
+    }
+
     // whether its value is that of a header
     pub(crate) fn is_header(&self) -> bool
         ensures { result ≡ is_header self.now }

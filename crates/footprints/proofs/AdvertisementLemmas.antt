@@ -4,7 +4,7 @@ use Rattle.json.specs.Print.{quoted, escape_byte}
 use Rattle.serde_json.specs.Data.{Data, array, object, no_members, member}
 use Rattle.serde_json.specs.View.{items_of}
 use Rattle.serde_json.specs.Written.{comma_if, compact_text, items_text, members_text}
-use Rattle.footprints.specs.Advertisement.{footprint_object, footprint_data, footprint_items, footprint_members, capability_data, advert_data, type_and_value}
+use Rattle.footprints.specs.Advertisement.{footprint_object, footprint_data, footprint_items, footprint_members, capability_data, logging_data, advert_data, type_and_value}
 use Rattle.footprints.specs.Settings.{AdvertParts}
 use Rattle.footprints.specs.declared.capability.Capability.TheVariants as capability
 
@@ -36,12 +36,12 @@ whole_of a b c d start first second third fourth last s ea eb ec ed e = rw (e, e
 pub whole_added : (parts : AdvertParts) (start first second third fourth last : List ℕ) → start ≡ 123 ∷ (quoted (codes "capabilities") ++ 58 ∷ 91 ∷ [])
     → first ≡ start ++ (comma_if false ++ compact_text (capability_data parts.footprints (capability.DeliveryProtocol parts.protocol)))
     → second ≡ first ++ (comma_if true ++ compact_text (capability_data parts.footprints capability.AcquisitionProtocol))
-    → third ≡ second ++ (comma_if true ++ compact_text (capability_data parts.footprints capability.Logging))
+    → third ≡ second ++ (comma_if true ++ compact_text (logging_data parts.footprints parts.fields))
     → fourth ≡ third ++ (comma_if true ++ compact_text (capability_data parts.footprints capability.Metadata))
     → last ≡ fourth ++ 93 ∷ 125 ∷ [] → last ≡ compact_text (advert_data parts)
 unfolding advert_data
 whole_added parts start first second third fourth last s a b c d e =
-    whole_of (capability_data parts.footprints (capability.DeliveryProtocol parts.protocol)) (capability_data parts.footprints capability.AcquisitionProtocol) (capability_data parts.footprints capability.Logging)
+    whole_of (capability_data parts.footprints (capability.DeliveryProtocol parts.protocol)) (capability_data parts.footprints capability.AcquisitionProtocol) (logging_data parts.footprints parts.fields)
     (capability_data parts.footprints capability.Metadata) start first second third fourth last s a b c d e
 
 -- the object of a text that was cut

@@ -1,2 +1,3 @@
 pub mod AdvertisementLemmas
+pub mod LoggingLemmas
 pub mod SettingsLemmas

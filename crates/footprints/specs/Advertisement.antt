@@ -6,6 +6,8 @@ use Rattle.serde_json.specs.View.{items_of}
 use Rattle.serde_json.specs.Written.{compact_text}
 use Rattle.targets.specs.declared.target.Protocol.{Protocol}
 use Rattle.targets.specs.declared.target.Protocol.TheVariants.{Http, Https}
+use Rattle.cdni_log.specs.declared.field.Field.{Field}
+use Rattle.footprints.specs.Logging.{logging_object, optional_names}
 use Rattle.footprints.specs.Settings.{AdvertParts, COLON}
 use Rattle.footprints.specs.declared.capability.Capability.{Capability}
 use Rattle.footprints.specs.declared.capability.Capability.TheVariants as capability
@@ -48,19 +50,15 @@ texts names = array (items_of (map string names))
 abbrev pub capability_type : Capability → List ℕ
 capability_type (capability.DeliveryProtocol protocol) = codes "FCI.DeliveryProtocol"
 capability_type capability.AcquisitionProtocol = codes "FCI.AcquisitionProtocol"
-capability_type capability.Logging = codes "FCI.Logging"
 capability_type capability.Metadata = codes "FCI.Metadata"
 
--- The protocol of the listener; HTTP/1.1 towards origins; the fields of RFC 7937's request record that are optional
--- and written; and the types of generic metadata (RFC 8006, section 7.1) that are enforced.
+-- The protocol of the listener; HTTP/1.1 towards origins; and the types of generic metadata (RFC 8006, section 7.1)
+-- that are enforced.
 abbrev pub capability_value : Capability → Data
 capability_value (capability.DeliveryProtocol protocol) =
     object (member (codes "delivery-protocols") (texts (protocol_name protocol ∷ [])) no_members)
 capability_value capability.AcquisitionProtocol =
     object (member (codes "acquisition-protocols") (texts (codes "http/1.1" ∷ [])) no_members)
-capability_value capability.Logging =
-    object (member (codes "fields") (texts (codes "sc-entity-bytes" ∷ codes "s-ccid" ∷ codes "s-cached" ∷ []))
-    (member (codes "record-type") (string (codes "cdni_http_request_v1")) no_members))
 capability_value capability.Metadata =
     object (member (codes "metadata") (texts (codes "MI.SourceMetadata" ∷ codes "MI.LocationACL"
     ∷ codes "MI.TimeWindowACL" ∷ codes "MI.ProtocolACL" ∷ codes "MI.Cache" ∷ codes "MI.Grouping" ∷ [])) no_members)
@@ -75,14 +73,19 @@ capability_data footprints one = capability_object one (footprint_members footpr
 
 -- ---- the advertisement
 
+-- the capability of logging with the optional ones among these fields
+abbrev pub logging_data : List (List ℕ) → List Field → Data
+logging_data footprints fields = logging_object (optional_names fields) (footprint_members footprints)
+
 -- four capabilities, each with the same footprints
-abbrev pub capabilities : Protocol → List Capability
-capabilities protocol = capability.DeliveryProtocol protocol ∷ capability.AcquisitionProtocol ∷ capability.Logging
-    ∷ capability.Metadata ∷ []
+abbrev pub capabilities : AdvertParts → List Data
+capabilities parts = capability_data parts.footprints (capability.DeliveryProtocol parts.protocol)
+    ∷ capability_data parts.footprints capability.AcquisitionProtocol
+    ∷ logging_data parts.footprints parts.fields
+    ∷ capability_data parts.footprints capability.Metadata ∷ []
 
 unfoldable pub advert_data : AdvertParts → Data
-advert_data parts = object (member (codes "capabilities")
-    (array (items_of (map (capability_data parts.footprints) (capabilities parts.protocol)))) no_members)
+advert_data parts = object (member (codes "capabilities") (array (items_of (capabilities parts))) no_members)
 
 -- its text, without spaces
 abbrev pub advert_text : AdvertParts → List ℕ

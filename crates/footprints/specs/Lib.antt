@@ -1,2 +1,3 @@
 pub mod Advertisement
+pub mod Logging
 pub mod Settings

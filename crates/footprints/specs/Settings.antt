@@ -1,15 +1,17 @@
 -- What an advertisement is made of.
 use Rattle.std.specs.Prelude.{◌≡◌, ℕ, Bool, false, List, ◌∷◌, ◌++◌, is_some}
 use Rattle.std.specs.Option.{option_map_or}
+use Rattle.cdni_log.specs.declared.field.Field.{Field}
 use Rattle.listing.specs.Word.{parts_at}
 use Rattle.location_acl.specs.Footprint.{IsFootprint, footprint_of}
 use Rattle.location_acl.specs.declared.footprint.Footprint.{Footprint}
 use Rattle.targets.specs.declared.target.Protocol.{Protocol}
 
--- the protocol of the listener, and the footprints of this CDN
+-- the protocol of the listener, the footprints of this CDN, and the fields of its log files
 pub record AdvertParts : Type 0 where
   pub protocol : Protocol
   pub footprints : List (List ℕ)
+  pub fields : List Field
 
 -- the byte `:`
 abbrev pub COLON : ℕ

@@ -2,18 +2,20 @@
 
 ghost use Rattle.std.specs.Prelude.{◌≡◌, ◌++◌, false, true, IfOk, OnOk};
 ghost use Rattle.serde_json.specs.Written.{comma_if, compact_text, items_text, members_text};
-ghost use Rattle.footprints.specs.Advertisement.{advert_text, capability_data, footprint_data, footprint_items};
+ghost use Rattle.footprints.specs.Advertisement.{advert_text, capability_data, footprint_data, footprint_items, logging_data};
 ghost use Rattle.footprints.specs.Advertisement.{footprint_members, type_and_value};
 
 use crate::capability::Capability;
+use crate::logging::add_logging_front;
 use crate::settings::AdvertSettings;
 use crate::write::{add_comma, add_quoted};
+use cdni_log::Field;
 use listing::{Text, cut_at};
 use std::alloc::{AllocError, Global};
 
 /// The advertisement (RFC 8008, section 5), as JSON without spaces, with the members of each object in the order of
-/// their bytes: the delivery protocol of the listener, the acquisition protocol HTTP/1.1, the optional log fields that
-/// are written and the metadata that is enforced, each with the footprints, where there are any.
+/// their bytes: the delivery protocol of the listener, the acquisition protocol HTTP/1.1, those of the fields of log
+/// files that are optional, and the metadata that is enforced, each with the footprints, where there are any.
 ///
 /// # Errors
 /// Want of memory.
@@ -26,7 +28,7 @@ pub fn advert(alloc: Global, settings: &AdvertSettings) -> Result<Text, AllocErr
     let delivery = Capability::DeliveryProtocol(settings.protocol);
     add_capability(&mut out, false, delivery, footprints)?;
     add_capability(&mut out, true, Capability::AcquisitionProtocol, footprints)?;
-    add_capability(&mut out, true, Capability::Logging, footprints)?;
+    add_logging(alloc, &mut out, settings.fields.as_slice(), footprints)?;
     add_capability(&mut out, true, Capability::Metadata, footprints)?;
     out.extend_from_slice(b"]}")?;
     Ok(Text::from_vec(out))
@@ -44,6 +46,20 @@ fn add_capability(
 {
     add_comma(out, later)?;
     out.extend_from_slice(capability.front().as_bytes())?;
+    add_footprints(out, footprints)
+}
+
+// adds the capability of logging with its footprints, behind others
+fn add_logging(
+    alloc: Global,
+    out: &mut Vec<u8>,
+    fields: &[Field],
+    footprints: &[Text],
+) -> Result<(), AllocError>
+    ensures { OnOk result (out.new.items
+        ≡ out.old.items ++ (comma_if true ++ compact_text (logging_data footprints.now fields.now))) }
+{
+    add_logging_front(alloc, out, fields)?;
     add_footprints(out, footprints)
 }
 

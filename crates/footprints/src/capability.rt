@@ -1,4 +1,4 @@
-//! The capabilities that are advertised (RFC 8008, section 5).
+//! The capabilities that are advertised (RFC 8008, section 5) whatever the fields of log files are.
 
 ghost use Rattle.std.specs.Prelude.{◌≡◌, ◌++◌, true};
 ghost use Rattle.serde_json.specs.Data.{Members};
@@ -7,15 +7,13 @@ ghost use Rattle.footprints.specs.Advertisement.{capability_object};
 
 use targets::Protocol;
 
-/// A capability that is advertised.
+/// A capability that is advertised, whatever the fields of log files are.
 #[derive(Clone, Copy)]
 pub(crate) enum Capability {
     /// The protocols by which content is delivered.
     DeliveryProtocol(Protocol),
     /// The protocols by which content is acquired.
     AcquisitionProtocol,
-    /// The optional fields of log records that are written.
-    Logging,
     /// The generic metadata that is enforced.
     Metadata,
 }
@@ -39,11 +37,6 @@ impl Capability {
             Capability::AcquisitionProtocol => concat!(
                 r#"{"capability-type":"FCI.AcquisitionProtocol","capability-value":"#,
                 r#"{"acquisition-protocols":["http/1.1"]}"#,
-            ),
-            Capability::Logging => concat!(
-                r#"{"capability-type":"FCI.Logging","capability-value":"#,
-                r#"{"fields":["sc-entity-bytes","s-ccid","s-cached"],"#,
-                r#""record-type":"cdni_http_request_v1"}"#,
             ),
             Capability::Metadata => concat!(
                 r#"{"capability-type":"FCI.Metadata","capability-value":"#,

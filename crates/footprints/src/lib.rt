@@ -5,6 +5,7 @@
 mod advertisement;
 mod capability;
 pub mod laws;
+mod logging;
 mod settings;
 mod write;
 

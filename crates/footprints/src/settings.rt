@@ -4,18 +4,20 @@ ghost use Rattle.std.specs.Prelude.{◌≡◌, ◌↔◌, All, IfSome, IsSome, I
 ghost use Rattle.std.specs.List.{list_all};
 ghost use Rattle.footprints.specs.Settings.{IsFootprintText, is_footprint_text};
 
+use cdni_log::FieldList;
 use listing::{Text, TextList, cut_at};
 use location_acl::Footprint;
 use std::marker::Model;
 use targets::Protocol;
 
-/// What an advertisement is made of: the protocol of the listener, and the footprints of this CDN, each the name of a
-/// type of footprints, `:`, and a value of that type (RFC 8006, section 4.2.2.2), as `countrycode:us`. It is seen as
-/// the two.
+/// What an advertisement is made of: the protocol of the listener; the footprints of this CDN, each the name of a type
+/// of footprints, `:`, and a value of that type (RFC 8006, section 4.2.2.2), as `countrycode:us`; and the fields of its
+/// log files (RFC 7937, section 3.4.1). It is seen as the three.
 #[derive(Drop)]
 pub struct AdvertSettings {
     pub protocol: Protocol,
     pub footprints: TextList,
+    pub fields: FieldList,
 }
 
 impl Model for AdvertSettings {
@@ -24,17 +26,22 @@ impl Model for AdvertSettings {
 
     ghost Value = { AdvertParts };
 
-    ghost view = { λ s. record { protocol = s.protocol; footprints = s.footprints } };
+    ghost view = { λ s. record { protocol = s.protocol; footprints = s.footprints; fields = s.fields } };
 
     ghost invariant = { λ s. All IsFootprintText s.footprints };
 
-    ghost inverse = { λ parts. record { protocol = parts.protocol; footprints = parts.footprints } };
+    ghost inverse = { λ parts. record { protocol = parts.protocol; footprints = parts.footprints; fields = parts.fields } };
 }
 
 impl AdvertSettings {
     /// The settings, or `None` exactly where a text is no footprint.
-    pub fn new(protocol: Protocol, footprints: TextList) -> Option<AdvertSettings>
-        ensures parts { IfSome result (λ settings. settings ≡ record { protocol = protocol; footprints = footprints }) }
+    pub fn new(
+        protocol: Protocol,
+        footprints: TextList,
+        fields: FieldList,
+    ) -> Option<AdvertSettings>
+        ensures parts { IfSome result (λ settings. settings
+            ≡ record { protocol = protocol; footprints = footprints; fields = fields }) }
         ensures right { IsSome result ↔ All IsFootprintText footprints }
     {
         if !are_footprints(footprints.as_slice()) {
@@ -43,6 +50,7 @@ impl AdvertSettings {
         Some(AdvertSettings {
             protocol,
             footprints,
+            fields,
         })
     }
 }

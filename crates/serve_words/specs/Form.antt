@@ -12,9 +12,9 @@ Pair = List ℕ × List ℕ
 
 -- the names of the options
 abbrev pub NAMES : List (List ℕ)
-NAMES = codes "listen" ∷ codes "metadata" ∷ codes "control" ∷ codes "protocol" ∷ codes "workers" ∷ codes "connections"
-    ∷ codes "places" ∷ codes "footprints" ∷ codes "cdn-id" ∷ codes "claimed-origin" ∷ codes "cache" ∷ codes "rows"
-    ∷ codes "triggers" ∷ codes "files" ∷ codes "period" ∷ []
+NAMES = codes "listen" ∷ codes "metadata" ∷ codes "control" ∷ codes "protocol" ∷ codes "workers"
+    ∷ codes "connections" ∷ codes "places" ∷ codes "footprints" ∷ codes "cdn-id" ∷ codes "claimed-origin"
+    ∷ codes "log-fields" ∷ codes "cache" ∷ codes "rows" ∷ codes "triggers" ∷ codes "files" ∷ codes "period" ∷ []
 
 -- what follows two hyphens at the front
 abbrev pub hyphened : List ℕ → Option (List ℕ)

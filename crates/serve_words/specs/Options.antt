@@ -9,6 +9,10 @@ use Rattle.std.specs.declared.result.Result.{Result}
 use Rattle.cdni_base.specs.Limits.{Bounds}
 use Rattle.cdni_base.specs.Provider.{provider_of}
 use Rattle.cdni_base.specs.declared.provider.ProviderId.{ProviderId}
+use Rattle.cdni_log.specs.FieldList.{default_fields, fields_of}
+use Rattle.cdni_log.specs.declared.field.Field.{Field}
+use Rattle.cdni_log.specs.declared.field.FieldNameFault.{FieldNameFault}
+use Rattle.cdni_log.specs.declared.field.FieldNameFault.TheVariants as field_name_fault
 use Rattle.footprints.specs.Settings.{AdvertParts, is_footprint_text}
 use Rattle.listing.specs.Number.{number_of}
 use Rattle.listing.specs.Word.{◌>>=◌}
@@ -72,10 +76,14 @@ abbrev pub parts_in : Option (List ℕ) → List (List ℕ)
 parts_in None = []
 parts_in (Some text) = slice_split (λ x. x == 44) text
 
--- these footprints, where each is one, under this protocol
-unfoldable pub advert_at : Protocol → List (List ℕ) → Option AdvertParts
-advert_at listener footprints = if list_all is_footprint_text footprints
-    then Some (record { protocol = listener; footprints = footprints }) else None
+-- the fields of log files: their names are joined by commas
+abbrev pub fields_in : Option (List ℕ) → Option (List Field)
+fields_in text = said_or (fields_of 44) default_fields text
+
+-- these footprints, where each is one, under this protocol and with these fields of log files
+unfoldable pub advert_at : Protocol → List (List ℕ) → List Field → Option AdvertParts
+advert_at listener footprints fields = if list_all is_footprint_text footprints
+    then Some (record { protocol = listener; footprints = footprints; fields = fields }) else None
 
 -- ---- limits
 
@@ -95,27 +103,30 @@ limits_of v = said_or (number_between 0 1073741824) 268435456 v.cache
       opened = 2 ^ 62;
     })
 
--- the protocol and the footprints
+-- the protocol, the footprints and the fields of log files
 unfoldable pub advert_of : ValueTexts → Option AdvertParts
 advert_of v = said_or protocol_of protocol.Http v.protocol
-    >>= λ listener. advert_at listener (parts_in v.footprints)
+    >>= λ listener. fields_in v.log_fields
+    >>= λ fields. advert_at listener (parts_in v.footprints) fields
 
 -- ---- all options
 
--- who the node is: the root document, the host of the upstream CDN's requests, the protocol and the footprints, the id, and
--- the host that log files claim
+-- who the node is: the root document, the host of the upstream CDN's requests, what it advertises, the id, the host that
+-- log files claim, and their fields
 unfoldable pub identity_of : ValueTexts → Option Identity
 identity_of v = root_in v.metadata
     >>= λ root. said_or host_of (codes "control.example") v.control
     >>= λ control. advert_of v
     >>= λ advert. said_or id_of (record { 0 = codes "AS64496:0" }) v.cdn_id
     >>= λ own. said_or host_of (codes "dcdn.example") v.claimed_origin
-    >>= λ origin. Some (record {
+    >>= λ origin. fields_in v.log_fields
+    >>= λ fields. Some (record {
       root = root;
       control = control;
       advert = advert;
       own = own;
       origin = origin;
+      fields = fields;
     })
 
 -- how much it serves: the workers, the connections of each, and the limits
@@ -140,6 +151,7 @@ options_in v = load_of v
       places = v.places;
       own = identity.own;
       origin = identity.origin;
+      fields = identity.fields;
       limits = load.limits;
     })
 
@@ -159,6 +171,10 @@ abbrev pub ReadsOptions : List (String Global) → OptionsRead → Type 0
 ReadsOptions words (read.Options options) = options_of words ≡ Some options
 ReadsOptions words read.NotOne = options_of words ≡ None
 ReadsOptions words read.Memory = Unit {0}
+
+abbrev pub unread_field : FieldNameFault → Unread
+unread_field field_name_fault.Memory = unread.Memory
+unread_field field_name_fault.Unknown = unread.NotOne
 
 abbrev pub unread_target : TargetFault → Unread
 unread_target target_fault.Memory = unread.Memory

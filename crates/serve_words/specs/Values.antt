@@ -18,6 +18,7 @@ pub record ValueTexts : Type 0 where
   pub footprints : Option (List ℕ)
   pub cdn_id : Option (List ℕ)
   pub claimed_origin : Option (List ℕ)
+  pub log_fields : Option (List ℕ)
   pub cache : Option (List ℕ)
   pub rows : Option (List ℕ)
   pub triggers : Option (List ℕ)
@@ -37,6 +38,7 @@ values_by found = record {
   footprints = found (codes "footprints");
   cdn_id = found (codes "cdn-id");
   claimed_origin = found (codes "claimed-origin");
+  log_fields = found (codes "log-fields");
   cache = found (codes "cache");
   rows = found (codes "rows");
   triggers = found (codes "triggers");
@@ -64,6 +66,7 @@ texts_at v = record {
   footprints = text_at v.footprints;
   cdn_id = text_at v.cdn_id;
   claimed_origin = text_at v.claimed_origin;
+  log_fields = text_at v.log_fields;
   cache = text_at v.cache;
   rows = text_at v.rows;
   triggers = text_at v.triggers;

@@ -7,7 +7,7 @@ ghost use Rattle.serve_words.specs.Form.{Pair, are_well, command_pairs, has_name
 use listing::cut_at;
 
 /// The names of the options, without the two hyphens before them.
-pub(crate) const NAMES: [&[u8]; 15] = [
+pub(crate) const NAMES: [&[u8]; 16] = [
     b"listen",
     b"metadata",
     b"control",
@@ -18,6 +18,7 @@ pub(crate) const NAMES: [&[u8]; 15] = [
     b"footprints",
     b"cdn-id",
     b"claimed-origin",
+    b"log-fields",
     b"cache",
     b"rows",
     b"triggers",

@@ -23,6 +23,7 @@ pub(crate) struct Values<'w> {
     pub footprints: Option<&'w str>,
     pub cdn_id: Option<&'w str>,
     pub claimed_origin: Option<&'w str>,
+    pub log_fields: Option<&'w str>,
     pub cache: Option<&'w str>,
     pub rows: Option<&'w str>,
     pub triggers: Option<&'w str>,
@@ -72,6 +73,7 @@ fn command<'a>(alloc: Global) -> Result<Command<'a>, AllocError>
     let command = with_option(alloc, command, "footprints")?;
     let command = with_option(alloc, command, "cdn-id")?;
     let command = with_option(alloc, command, "claimed-origin")?;
+    let command = with_option(alloc, command, "log-fields")?;
     let command = with_option(alloc, command, "cache")?;
     let command = with_option(alloc, command, "rows")?;
     let command = with_option(alloc, command, "triggers")?;
@@ -106,6 +108,7 @@ fn values_in<'w>(matches: &ArgMatches<'w>) -> Values<'w>
         footprints: matches.get_str("footprints"),
         cdn_id: matches.get_str("cdn-id"),
         claimed_origin: matches.get_str("claimed-origin"),
+        log_fields: matches.get_str("log-fields"),
         cache: matches.get_str("cache"),
         rows: matches.get_str("rows"),
         triggers: matches.get_str("triggers"),

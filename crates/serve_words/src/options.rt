@@ -7,6 +7,7 @@ use crate::form::is_in_form;
 use crate::matching::match_words;
 use crate::reading::read_values;
 use cdni_base::{HostName, Limits, ProviderId, Target, Text};
+use cdni_log::{FieldList, FieldNameFault};
 use footprints::AdvertSettings;
 use std::alloc::{AllocError, Global};
 use targets::TargetFault;
@@ -20,7 +21,7 @@ pub struct Options {
     pub root: Target,
     /// The host of the upstream CDN's requests.
     pub control: HostName,
-    /// The protocol of the listener, and the footprints of this CDN.
+    /// The protocol of the listener, the footprints of this CDN, and the fields of its log files.
     pub advert: AdvertSettings,
     /// How many workers serve.
     pub workers: u32,
@@ -32,6 +33,8 @@ pub struct Options {
     pub own: ProviderId,
     /// The host that log files claim.
     pub origin: HostName,
+    /// The fields of log files, in their order.
+    pub fields: FieldList,
     /// What the node keeps at most.
     pub limits: Limits,
 }
@@ -62,6 +65,20 @@ impl From<AllocError> for Unread {
 
     fn from(_error: AllocError) -> Unread {
         Unread::Memory
+    }
+}
+
+impl From<FieldNameFault> for Unread {
+    ghost use Rattle.std.specs.Prelude.{◌≡◌};
+    ghost use Rattle.serve_words.specs.Options.{unread_field};
+
+    ghost from_gives = { λ fault given. given ≡ unread_field fault };
+
+    fn from(fault: FieldNameFault) -> Unread {
+        match fault {
+            FieldNameFault::Unknown => Unread::NotOne,
+            FieldNameFault::Memory => Unread::Memory,
+        }
     }
 }
 

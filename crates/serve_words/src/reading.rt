@@ -4,7 +4,7 @@ ghost use Rattle.std.specs.Prelude.{◌≡◌, ◌≤◌, ◌==◌, IfOk, List, 
 ghost use Rattle.std.specs.List.{slice_split};
 ghost use Rattle.targets.specs.Target.{begins_with};
 ghost use Rattle.targets.specs.declared.host_name.TheConstants.{HOST_NAME_MAX};
-ghost use Rattle.serve_words.specs.Options.{Gives, advert_of, host_of, identity_of, id_of, limits_of, load_of, number_between, options_in, parts_in, protocol_of, root_in, root_of, said_if, said_or};
+ghost use Rattle.serve_words.specs.Options.{Gives, advert_of, fields_in, host_of, identity_of, id_of, limits_of, load_of, number_between, options_in, parts_in, protocol_of, root_in, root_of, said_if, said_or};
 ghost use Rattle.serve_words.specs.Values.{text_at, texts_at};
 
 use crate::matching::Values;
@@ -12,6 +12,7 @@ use crate::options::{Options, Unread};
 use cdni_base::{
     Endpoint, EndpointFault, HostName, Limits, Protocol, ProviderFault, ProviderId, Target, Text,
 };
+use cdni_log::{FieldList, default_fields, read_fields};
 use footprints::AdvertSettings;
 use listing::{TextList, read_decimal};
 use std::alloc::{AllocError, Global};
@@ -24,6 +25,7 @@ pub(crate) struct Identity {
     advert: AdvertSettings,
     own: ProviderId,
     origin: HostName,
+    fields: FieldList,
 }
 
 // how much it serves
@@ -53,6 +55,7 @@ pub(crate) fn read_values(alloc: Global, values: &Values<'_>) -> Result<Options,
         places,
         own: identity.own,
         origin: identity.origin,
+        fields: identity.fields,
         limits: load.limits,
     })
 }
@@ -66,12 +69,14 @@ fn read_identity(alloc: Global, values: &Values<'_>) -> Result<Identity, Unread>
     let advert = read_advert(alloc, values)?;
     let own = read_id(alloc, values.cdn_id)?;
     let origin = read_host(alloc, values.claimed_origin, "dcdn.example")?;
+    let fields = read_log_fields(alloc, values.log_fields)?;
     Ok(Identity {
         root,
         control,
         advert,
         own,
         origin,
+        fields,
     })
 }
 
@@ -167,16 +172,27 @@ fn host_in(alloc: Global, text: &[u8]) -> Result<HostName, Unread>
     }
 }
 
-// the protocol of the listener, and the footprints
+// the protocol of the listener, the footprints, and the fields of log files
 #[tactic(auto, unfolding(crate::specs::Options::advert_of, crate::specs::Options::advert_at))]
 fn read_advert(alloc: Global, values: &Values<'_>) -> Result<AdvertSettings, Unread>
     ensures { Gives result (advert_of (texts_at values.now)) }
 {
     let protocol = read_protocol(values.protocol)?;
+    let fields = read_log_fields(alloc, values.log_fields)?;
     let footprints = split_text(alloc, values.footprints)?;
-    match AdvertSettings::new(protocol, footprints) {
+    match AdvertSettings::new(protocol, footprints, fields) {
         Some(advert) => Ok(advert),
         None => Err(Unread::NotOne),
+    }
+}
+
+// the fields of log files, or the usual ones
+fn read_log_fields(alloc: Global, text: Option<&str>) -> Result<FieldList, Unread>
+    ensures { Gives result (fields_in (text_at text.entry)) }
+{
+    match text {
+        Some(text) => Ok(read_fields(alloc, b',', text.as_bytes())?),
+        None => Ok(default_fields(alloc)?),
     }
 }
 

@@ -18,8 +18,9 @@ returns c =
     let s8 = c.in_ok-command-8.ensures ∙ ap (λ (a : App). with_rule a (option_rule (codes "footprints"))) s7 in
     let s9 = c.in_ok-command-9.ensures ∙ ap (λ (a : App). with_rule a (option_rule (codes "cdn-id"))) s8 in
     let s10 = c.in_ok-command-10.ensures ∙ ap (λ (a : App). with_rule a (option_rule (codes "claimed-origin"))) s9 in
-    let s11 = c.in_ok-command-11.ensures ∙ ap (λ (a : App). with_rule a (option_rule (codes "cache"))) s10 in
-    let s12 = c.in_ok-command-12.ensures ∙ ap (λ (a : App). with_rule a (option_rule (codes "rows"))) s11 in
-    let s13 = c.in_ok-command-13.ensures ∙ ap (λ (a : App). with_rule a (option_rule (codes "triggers"))) s12 in
-    let s14 = c.in_ok-command-14.ensures ∙ ap (λ (a : App). with_rule a (option_rule (codes "files"))) s13 in
-    IfOk-weaker c.with_option-15.result _ _ (λ m h. h ∙ ap (λ (a : App). with_rule a (option_rule (codes "period"))) s14) c.with_option-15.ensures
+    let s11 = c.in_ok-command-11.ensures ∙ ap (λ (a : App). with_rule a (option_rule (codes "log-fields"))) s10 in
+    let s12 = c.in_ok-command-12.ensures ∙ ap (λ (a : App). with_rule a (option_rule (codes "cache"))) s11 in
+    let s13 = c.in_ok-command-13.ensures ∙ ap (λ (a : App). with_rule a (option_rule (codes "rows"))) s12 in
+    let s14 = c.in_ok-command-14.ensures ∙ ap (λ (a : App). with_rule a (option_rule (codes "triggers"))) s13 in
+    let s15 = c.in_ok-command-15.ensures ∙ ap (λ (a : App). with_rule a (option_rule (codes "files"))) s14 in
+    IfOk-weaker c.with_option-16.result _ _ (λ m h. h ∙ ap (λ (a : App). with_rule a (option_rule (codes "period"))) s15) c.with_option-16.ensures

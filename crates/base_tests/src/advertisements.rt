@@ -1,5 +1,6 @@
 //! Advertisements.
 
+use cdni_log::{default_fields, read_fields};
 use footprints::{AdvertSettings, advert};
 use listing::{Listing, Text, TextList};
 use std::alloc::{AllocError, Global};
@@ -14,7 +15,7 @@ fn texts_of(alloc: Global, texts: &[&str]) -> Result<TextList, AllocError> {
     Ok(list)
 }
 
-// whether the advertisement of this protocol and these footprints is this text
+// whether the advertisement of this protocol, these footprints and the usual fields is this text
 fn is_advert(
     alloc: Global,
     protocol: Protocol,
@@ -22,7 +23,8 @@ fn is_advert(
     expected: &str,
 ) -> Result<bool, Fail> {
     let footprints = texts_of(alloc, footprints)?;
-    let settings = AdvertSettings::new(protocol, footprints).ok_or("no footprint")?;
+    let fields = default_fields(alloc)?;
+    let settings = AdvertSettings::new(protocol, footprints, fields).ok_or("no footprint")?;
     Ok(advert(alloc, &settings)?.is(expected.as_bytes()))
 }
 
@@ -60,6 +62,28 @@ fn no_footprints_are_left_out(rt: HostRuntime) -> Result<(), Fail> {
     Ok(())
 }
 
+// whether the capability of logging has these fields, where log files have those
+fn has_fields(alloc: Global, written: &str, shown: &str) -> Result<bool, Fail> {
+    let Ok(fields) = read_fields(alloc, b',', written.as_bytes()) else {
+        return Err(Fail::from("names"));
+    };
+    let settings = AdvertSettings::new(Protocol::Http, TextList::new(alloc), fields).ok_or("no footprint")?;
+    let capability = format!(in alloc; r#","capability-value":{{"fields":[{shown}],"record-type":"#)?;
+    let text = advert(alloc, &settings)?;
+    let text = String::from_utf8(Vec::from_slice(alloc, text.bytes())?).map_err(|_| "UTF-8")?;
+    Ok(text.as_str().contains(capability.as_str()))
+}
+
+#[test]
+fn optional_fields_are_advertised(rt: HostRuntime) -> Result<(), Fail> {
+    let alloc = rt.alloc();
+    assert!(rt; has_fields(alloc, "date,sc-status", "")?);
+    assert!(rt; has_fields(alloc, "sc-status,cs(user-agent)", r#""cs(user-agent)""#)?);
+    let shown = r#""cs(b)","s-cached","cs(a)","sc-entity-bytes""#;
+    assert!(rt; has_fields(alloc, "cs(B),s-cached,time,cs(a),sc-entity-bytes", shown)?);
+    Ok(())
+}
+
 // whether these footprints of the first capability are shown, in this order and by these objects
 fn are_shown(alloc: Global, footprints: &[&str], objects: &str) -> Result<bool, Fail> {
     let front = concat!(
@@ -68,7 +92,8 @@ fn are_shown(alloc: Global, footprints: &[&str], objects: &str) -> Result<bool, 
     );
     let expected = format!(in alloc; "{front}{objects}]}},")?;
     let footprints = texts_of(alloc, footprints)?;
-    let settings = AdvertSettings::new(Protocol::Http, footprints).ok_or("no footprint")?;
+    let fields = default_fields(alloc)?;
+    let settings = AdvertSettings::new(Protocol::Http, footprints, fields).ok_or("no footprint")?;
     Ok(
         advert(alloc, &settings)?
             .bytes()
@@ -105,8 +130,9 @@ fn other_texts_are_no_footprints(rt: HostRuntime) -> Result<(), Fail> {
         ":us",
     ] {
         let footprints = texts_of(rt.alloc(), &["countrycode:us", text])?;
+        let fields = default_fields(rt.alloc())?;
         assert!(rt;
-            AdvertSettings::new(Protocol::Http, footprints).is_none(),
+            AdvertSettings::new(Protocol::Http, footprints, fields).is_none(),
             "{text}"
         );
     }

@@ -10,6 +10,8 @@ mod gates;
 #[cfg(test)]
 mod generated_scripts;
 #[cfg(test)]
+mod log_fields;
+#[cfg(test)]
 mod log_files;
 #[cfg(test)]
 mod patterns;

@@ -1,6 +1,6 @@
 //! Files that other programs made: their UUIDs are Python's `uuid5`, and their hashes `sha256sum`'s.
 
-use cdni_log::{FileHead, Row, RowList, file_text};
+use cdni_log::{ExtraList, FileHead, Row, RowList, default_fields, file_text};
 use listing::{Moment, ReservedList, Text};
 use std::alloc::{AllocError, Global};
 use std::test::Fail;
@@ -37,7 +37,7 @@ fn file_of(alloc: Global, lines: &[&str]) -> Result<Vec<u8>, AllocError> {
     Ok(text)
 }
 
-fn head_of(
+pub(crate) fn head_of(
     alloc: Global,
     number: u64,
     moment: Moment,
@@ -47,6 +47,7 @@ fn head_of(
         number,
         moment,
         origin: Text::of(alloc, origin)?,
+        fields: default_fields(alloc)?,
     })
 }
 
@@ -77,6 +78,7 @@ fn row_of(alloc: Global, seen: &Seen<'_>) -> Result<Row, AllocError> {
         entity: seen.bytes[1],
         ccid,
         cached: seen.cached,
+        extra: ExtraList::new(alloc),
     })
 }
 
@@ -91,10 +93,10 @@ fn rows_of(alloc: Global, seen: &[Seen<'_>]) -> Result<RowList, AllocError> {
 }
 
 // the row of the first file
-fn first_rows(alloc: Global) -> Result<RowList, AllocError> {
-    rows_of(
+pub(crate) fn first_row(alloc: Global) -> Result<Row, AllocError> {
+    row_of(
         alloc,
-        &[Seen {
+        &Seen {
             moments: [1368751077767, 1368751086825],
             asn: Some(64496),
             request: [b"GET", b"http://v.example/a"],
@@ -102,8 +104,16 @@ fn first_rows(alloc: Global) -> Result<RowList, AllocError> {
             bytes: [134, 10],
             ccid: None,
             cached: false,
-        }],
+        },
     )
+}
+
+// a list of this row
+pub(crate) fn one_row(alloc: Global, row: Row) -> Result<RowList, AllocError> {
+    let mut rows = ReservedList::new(alloc);
+    rows.reserve(alloc, 1)?;
+    rows.push_reserved(row);
+    Ok(rows)
 }
 
 // the rows of the second one
@@ -146,7 +156,7 @@ fn second_rows(alloc: Global) -> Result<RowList, AllocError> {
 fn files_are_those_of_other_programs(rt: HostRuntime) -> Result<(), Fail> {
     let alloc = rt.alloc();
     let head = head_of(alloc, 1, 1368751086900, b"dcdn.example")?;
-    let text = file_text(alloc, &head, &first_rows(alloc)?)?;
+    let text = file_text(alloc, &head, &one_row(alloc, first_row(alloc)?)?)?;
     assert!(rt; text.is(&file_of(alloc, &FIRST)?));
 
     let head = head_of(alloc, 18446744073709551615, 0, b"log.example")?;

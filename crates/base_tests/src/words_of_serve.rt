@@ -6,7 +6,7 @@ use std::test::Fail;
 const GOOD: &str = "serve --listen 127.0.0.1:0 --metadata http://up.example/i";
 
 // words, each behind one space, and whether they are a command
-const LINES: [(&str, bool); 38] = [
+const LINES: [(&str, bool); 44] = [
     ("", true),
     (" --workers=1", true),
     (" --workers 64", true),
@@ -38,6 +38,12 @@ const LINES: [(&str, bool); 38] = [
         " --cache 0 --rows 1 --triggers 1 --files 1 --period 0",
         true,
     ),
+    (" --log-fields sc-status,cs(User-Agent)", true),
+    (" --log-fields=date", true),
+    (" --log-fields date,date", false),
+    (" --log-fields cs(a),cs(A)", false),
+    (" --log-fields cs()", false),
+    (" --log-fields date,", false),
     (" --cache 1073741825", false),
     (" --rows 100001", false),
     (" --triggers 10001", false),

@@ -46,6 +46,7 @@ pub enum Field {
 }
 
 /// Why a text was not read as the name of a field.
+#[derive(Clone, Copy, Debug, PartialEq, Eq)]
 pub enum FieldNameFault {
     /// It is the name of no field.
     Unknown,

@@ -67,8 +67,12 @@ fn has_fields(alloc: Global, written: &str, shown: &str) -> Result<bool, Fail> {
     let Ok(fields) = read_fields(alloc, b',', written.as_bytes()) else {
         return Err(Fail::from("names"));
     };
-    let settings = AdvertSettings::new(Protocol::Http, TextList::new(alloc), fields).ok_or("no footprint")?;
-    let capability = format!(in alloc; r#","capability-value":{{"fields":[{shown}],"record-type":"#)?;
+    let settings = AdvertSettings::new(Protocol::Http, TextList::new(alloc), fields).ok_or(
+        "no footprint",
+    )?;
+    let capability = format!(in alloc;
+        r#","capability-value":{{"fields":[{shown}],"record-type":"#
+    )?;
     let text = advert(alloc, &settings)?;
     let text = String::from_utf8(Vec::from_slice(alloc, text.bytes())?).map_err(|_| "UTF-8")?;
     Ok(text.as_str().contains(capability.as_str()))

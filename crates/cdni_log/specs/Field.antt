@@ -1,5 +1,5 @@
 -- The fields of a record (RFC 7937, section 3.4.1).
-use Rattle.std.specs.Prelude.{◌≡◌, ℕ, ◌-◌, Bool, true, false, List, ◌++◌, codes, bytes_eq, drop, length, take, slice_range, None, Some, Ok, Err, ◌==◌, ◌&&◌, ◌||◌, nat_lt, nat_le, if◌then◌else◌}
+use Rattle.std.specs.Prelude.{◌≡◌, ℕ, ◌-◌, Bool, true, false, IsTrue, List, ◌++◌, codes, bytes_eq, drop, length, take, slice_range, None, Some, Ok, Err, ◌==◌, ◌&&◌, ◌||◌, nat_lt, nat_le, if◌then◌else◌}
 use Rattle.std.specs.Char.{is_ascii_alphanumeric}
 use Rattle.std.specs.List.{list_all, list_any}
 use Rattle.std.specs.Option.{option_map}
@@ -82,6 +82,12 @@ or_else (Some a) other = Some a
 -- the field of this name, if there is one
 abbrev pub field_of : List ℕ → Option Field
 field_of name = or_else (plain_field name) (option_map field.Header (header_of name))
+
+-- the text is a name of the field; a header is a token, of which the name may have any case (RFC 9110, section 5.1)
+abbrev pub IsNameOf : Field → List ℕ → Type 0
+IsNameOf (field.Header header) name = (written : List ℕ) × IsTrue (is_token written)
+    × (name ≡ header_field written) × (header ≡ str_to_ascii_lowercase written)
+IsNameOf column name = name ≡ field_name column
 
 -- what was read of a text that says this, if anything
 abbrev pub Reads : {A : Type 0} → Result A FieldNameFault → Option A → Type 0

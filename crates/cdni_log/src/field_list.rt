@@ -51,11 +51,7 @@ pub fn default_fields(alloc: Global) -> Result<FieldList, AllocError>
 /// # Errors
 /// `Unknown` exactly where the text has no such fields; want of memory.
 #[tactic(auto, unfolding(crate::specs::FieldList::fields_of))]
-pub fn read_fields(
-    alloc: Global,
-    between: u8,
-    text: &[u8],
-) -> Result<FieldList, FieldNameFault>
+pub fn read_fields(alloc: Global, between: u8, text: &[u8]) -> Result<FieldList, FieldNameFault>
     ensures { Reads result (fields_of between text.now) }
 {
     let fields = read_names(alloc, between, text)?;

@@ -1,10 +1,12 @@
 //! What the definitions mean, as laws above them. Each function does nothing: its contract is the law.
 
-ghost use Rattle.std.specs.Prelude.{ℕ, ◌<◌, List, map};
+ghost use Rattle.std.specs.Prelude.{◌≡◌, ℕ, ◌<◌, ◌↔◌, List, Some, map};
 ghost use Rattle.cdni_log.specs.Columns.{IsTable};
 ghost use Rattle.cdni_log.specs.Date.{date_of, IsDateOf};
-ghost use Rattle.cdni_log.specs.Field.{field_name};
+ghost use Rattle.cdni_log.specs.Extra.{IsLoggedOf, logged_value};
+ghost use Rattle.cdni_log.specs.Field.{field_name, field_of, IsNameOf};
 ghost use Rattle.cdni_log.specs.File.{file_text};
+ghost use Rattle.cdni_log.specs.declared.field.Field.{Field};
 ghost use Rattle.cdni_log.specs.declared.row.FileHead.{FileHead};
 ghost use Rattle.cdni_log.specs.declared.row.Row.{Row};
 
@@ -19,4 +21,18 @@ pub fn a_day_has_its_date()
 #[tactic(auto, using(crate::proofs::TableLemmas::table))]
 pub fn each_value_stands_below_its_name()
     ensures { (head : FileHead) (rows : List Row) → IsTable (map field_name head.fields) rows (file_text head rows) }
+{}
+
+/// A text names a field exactly where it is a name of it, so that no text names two: one of the thirteen names, or a
+/// token of at most 64 bytes between `cs(` and `)`, whose case is no part of the field.
+#[tactic(auto, using(crate::proofs::NameLemmas::names_it))]
+pub fn a_text_names_one_field()
+    ensures { (name : List ℕ) (column : Field) → (field_of name ≡ Some column) ↔ IsNameOf column name }
+{}
+
+/// What is logged of a header's value stands on one line and between two tabs: its first 1,024 bytes, with a space for
+/// each control.
+#[tactic(auto, using(crate::proofs::ExtraLemmas::is_logged))]
+pub fn a_logged_value_has_no_control()
+    ensures { (value : List ℕ) → IsLoggedOf value (logged_value value) }
 {}

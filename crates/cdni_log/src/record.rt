@@ -15,11 +15,7 @@ use std::alloc::AllocError;
 
 // adds the line of a row, with the values of these fields
 #[tactic(auto, unfolding(crate::specs::Row::record_text))]
-pub(crate) fn add_record(
-    out: &mut Vec<u8>,
-    fields: &[Field],
-    row: &Row,
-) -> Result<(), AllocError>
+pub(crate) fn add_record(out: &mut Vec<u8>, fields: &[Field], row: &Row) -> Result<(), AllocError>
     ensures { OnOk result (out.new.items ≡ out.old.items ++ record_text fields.now row.now) }
 {
     add_values(out, fields, row)?;
@@ -59,12 +55,7 @@ fn add_values_behind(
 
 // adds the value of a field before which so many fields are headers
 #[tactic(auto, unfolding(crate::specs::Row::value_of))]
-fn add_value(
-    out: &mut Vec<u8>,
-    row: &Row,
-    headers: usize,
-    field: &Field,
-) -> Result<(), AllocError>
+fn add_value(out: &mut Vec<u8>, row: &Row, headers: usize, field: &Field) -> Result<(), AllocError>
     ensures { OnOk result (out.new.items ≡ out.old.items ++ value_of row.now headers field.now) }
 {
     let mut digits = Buffer::new();

@@ -21,9 +21,7 @@ pub(crate) fn add_logging_front(
         ≡ out.old.items ++ (comma_if true ++ compact_text (logging_object (optional_names fields.now) others))) }
 {
     let names = optional_names(alloc, fields)?;
-    out.extend_from_slice(
-        br#",{"capability-type":"FCI.Logging","capability-value":{"fields":["#,
-    )?;
+    out.extend_from_slice(br#",{"capability-type":"FCI.Logging","capability-value":{"fields":["#)?;
     add_texts(out, names.as_slice())?;
     out.extend_from_slice(br#","record-type":"cdni_http_request_v1"}"#)?;
     Ok(())

@@ -1,15 +1,15 @@
 -- Log files and their bad lines.
-use Rattle.std.proofs.Common.{◌≡◌, ℕ, zero, suc, ◌+◌, ◌-◌, ◌<◌, ◌≤◌, ◌⊎◌, inl, inr, ⊎_elim, ◌↔◌, Bool, true, false, List, [], ◌∷◌, ◌++◌, Option, None, Some, length, take, drop, refl, ap, sym, subst, ◌∙◌, append-nil, append_assoc, take-append-drop, arith}
+use Rattle.std.proofs.Common.{◌≡◌, ℕ, ◌+◌, ◌-◌, ◌<◌, ◌≤◌, inl, inr, ⊎_elim, ◌↔◌, true, false, List, [], ◌∷◌, ◌++◌, Option, None, Some, length, take, drop, refl, ap, sym, subst, ◌∙◌, append-nil, append_assoc, take-append-drop, arith}
 use Rattle.std.proofs.lemmas.Bool.{cases_Bool, cases_order, false≢true}
 use Rattle.std.proofs.lemmas.List.{drop-take, length-drop, length-take, take-take, take_all}
 use Rattle.std.proofs.lemmas.Option.{none-some, same_Some}
-use Rattle.std.specs.List.{AllByRecursion, concat}
+use Rattle.std.specs.List.{concat}
 use Rattle.log_audit.specs.declared.place.Place.{Place}
 use Rattle.log_audit.specs.declared.place.Place.TheVariants as place
 use Rattle.log_audit.specs.LogFile.{LogFile, IsLogFile}
 use Rattle.log_audit.specs.Lines.{bad_line, front, is_end, lines_of, next, Begins, EndsHope, IsBadLine}
 use Rattle.log_audit.proofs.LineLemmas.{AreLines, cut_lines, ended, feeds, feeds_lines, few_lines, is_line, joined, last_at}
-use Rattle.log_audit.proofs.WalkLemmas.{IsStuck, found, gone, none_bad, passed, stopped, walk, walk_append, walked_lines}
+use Rattle.log_audit.proofs.WalkLemmas.{found, gone, none_bad, passed, stopped, walk, walk_append, walked_lines}
 use Rattle.log_audit.proofs.WholeLemmas.{ending, ending_walks, of_file, to_file}
 
 pub no_bad_line : (text : List ℕ) → (bad_line text ≡ None) ↔ ((file : LogFile) × IsLogFile text file)

@@ -1,14 +1,13 @@
 -- Walks over lines, each of which may stand at its place.
-use Rattle.std.proofs.Common.{◌≡◌, ℕ, zero, suc, ◌+◌, ◌-◌, ◌<◌, ◌≤◌, ◌⊎◌, inl, inr, Bool, true, false, cond, List, [], ◌∷◌, ◌++◌, Option, None, Some, length, take, drop, refl, ap, sym, subst, ◌∙◌, append-nil, arith}
+use Rattle.std.proofs.Common.{◌≡◌, ℕ, suc, ◌+◌, ◌⊎◌, inl, inr, Bool, true, false, cond, List, [], ◌∷◌, ◌++◌, Option, None, Some, length, take, drop, refl, ap, sym, ◌∙◌, arith}
 use Rattle.std.proofs.lemmas.Bool.{false≢true}
 use Rattle.std.proofs.lemmas.Option.{none-some, same_Some}
-use Rattle.std.specs.List.{AllByRecursion, concat}
 use Rattle.std.specs.Option.{option_map_or}
 use Rattle.listing.specs.Word.{◌>>=◌}
 use Rattle.log_audit.specs.declared.place.Place.{Place}
 use Rattle.log_audit.specs.declared.place.Place.TheVariants as place
-use Rattle.log_audit.specs.Lines.{bad_from, is_end, lines_of, next}
-use Rattle.log_audit.proofs.LineLemmas.{AreLines, is_line}
+use Rattle.log_audit.specs.Lines.{bad_from, is_end, next}
+use Rattle.log_audit.proofs.LineLemmas.{AreLines}
 use Rattle.log_audit.proofs.PlaceLemmas.{next_line}
 
 -- where the lines lead, each of which may stand at its place

@@ -3,13 +3,12 @@ use Rattle.std.specs.Prelude.{◌≡◌, ◌≤◌, ◌⊎◌, ℕ, ◌+◌, ◌
 use Rattle.std.specs.List.{concat, count_by, slice_split}
 use Rattle.std.specs.Option.{option_map_or}
 use Rattle.std.specs.declared.option.Option.{Option}
-use Rattle.listing.specs.Word.{◌>>=◌}
 use Rattle.cdni_log.specs.FieldList.{fields_of}
 use Rattle.cdni_log.specs.Line.{directive}
 use Rattle.cdni_log.specs.declared.field.Field.{Field}
 use Rattle.log_audit.specs.declared.place.Place.{Place}
 use Rattle.log_audit.specs.declared.place.Place.TheVariants as place
-use Rattle.log_audit.specs.LogFile.{hash_line, is_hash, is_origin, is_uuid, names_text, record_line, urn, LogFile, IsLogFile}
+use Rattle.log_audit.specs.LogFile.{is_hash, is_origin, is_uuid, names_text, record_line, urn, LogFile, IsLogFile}
 use Rattle.log_audit.specs.Value.{is_record, is_unbroken}
 
 -- the line with one byte more in front, or a line of this byte where there is none
@@ -51,7 +50,7 @@ abbrev pub records_behind : List ℕ → Option (List Field) → Option Place
 records_behind line None = None
 records_behind line (Some fields) =
     then_to (place.Records fields)
-        (is_unbroken (names_text fields) && bytes_eq line (directive (codes "fields") (names_text fields)))
+    (is_unbroken (names_text fields) && bytes_eq line (directive (codes "fields") (names_text fields)))
 
 -- what the line after this one is to be, where the line may stand at its place
 unfoldable pub next : Place → List ℕ → Option Place

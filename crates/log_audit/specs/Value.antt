@@ -1,10 +1,9 @@
 -- The forms of the values of a record (RFC 7937, section 3.4.1).
-use Rattle.std.specs.Prelude.{ℕ, ◌+◌, ◌-◌, ◌*◌, ◌^◌, Bool, true, false, not, List, [], ◌∷◌, bytes_eq, codes, drop, length, position, slice_index, slice_range, take, None, Some, is_some, ◌==◌, ◌&&◌, ◌||◌, nat_lt, nat_le, if◌then◌else◌}
+use Rattle.std.specs.Prelude.{ℕ, ◌+◌, ◌-◌, ◌*◌, ◌^◌, Bool, true, false, not, List, [], ◌∷◌, bytes_eq, codes, drop, length, slice_range, take, None, is_some, ◌==◌, ◌&&◌, ◌||◌, nat_lt, nat_le, if◌then◌else◌}
 use Rattle.std.specs.Char.{is_ascii_digit}
 use Rattle.std.specs.List.{fold, list_all}
 use Rattle.std.specs.Option.{option_map_or}
 use Rattle.std.specs.Result.{result_ok}
-use Rattle.std.specs.declared.option.Option.{Option}
 use Rattle.httpdate.specs.Calendar.{days_in_month}
 use Rattle.listing.specs.Number.{number_of}
 use Rattle.listing.specs.Word.{parts_at}

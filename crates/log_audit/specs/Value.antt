@@ -1,5 +1,5 @@
 -- The forms of the values of a record (RFC 7937, section 3.4.1).
-use Rattle.std.specs.Prelude.{ℕ, ◌+◌, ◌-◌, ◌*◌, ◌^◌, Bool, true, false, not, List, [], ◌∷◌, bytes_eq, codes, drop, length, slice_range, take, None, is_some, ◌==◌, ◌&&◌, ◌||◌, nat_lt, nat_le, if◌then◌else◌}
+use Rattle.std.specs.Prelude.{ℕ, ◌+◌, ◌-◌, ◌*◌, ◌^◌, Bool, true, false, not, List, [], ◌∷◌, bytes_eq, codes, drop, length, slice_range, take, None, is_some, ◌==◌, ◌&&◌, ◌||◌, nat_lt, nat_le, if◌then◌else◌, slice_index}
 use Rattle.std.specs.Char.{is_ascii_digit}
 use Rattle.std.specs.List.{fold, list_all}
 use Rattle.std.specs.Option.{option_map_or}
@@ -80,9 +80,9 @@ unfoldable pub is_url : List ℕ → Bool
 is_url text = (begins_with (codes "http://") text || begins_with (codes "https://") text)
     && is_some (result_ok (target_of text None false))
 
--- three digits from 100
+-- three digits from 100: the first is no 0
 unfoldable pub is_status : List ℕ → Bool
-is_status text = are_three_digits text && nat_le 100 (digits_of text)
+is_status text = are_three_digits text && nat_le 49 (slice_index text 0)
 
 -- a text in quotes with each `"` in it doubled, or `-`
 unfoldable pub is_optional : List ℕ → Bool

@@ -18,9 +18,9 @@ use sha2::{Digest, Sha256};
 use std::alloc::{AllocError, Global};
 use uuid::Uuid;
 
-/// The text of a log file (RFC 7937, section 3): its directives, of which one names the head's fields,
-/// one line for each row, in order, with the values of these fields, and the SHA-256 of all bytes before. Lines end in CR LF. Each moment is shown in UTC, and one after the year 9999 as the last of that
-/// year. Copies of the text share its bytes.
+/// The text of a log file (RFC 7937, section 3): its directives, of which one names the head's fields, one line for each
+/// row, in order, with the values of these fields, and the SHA-256 of all bytes before. Lines end in CR LF. Each moment
+/// is shown in UTC, and one after the year 9999 as the last of that year. Copies of the text share its bytes.
 ///
 /// # Errors
 /// Want of memory.

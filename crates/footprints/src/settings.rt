@@ -30,7 +30,11 @@ impl Model for AdvertSettings {
 
     ghost invariant = { λ s. All IsFootprintText s.footprints };
 
-    ghost inverse = { λ parts. record { protocol = parts.protocol; footprints = parts.footprints; fields = parts.fields } };
+    ghost inverse = { λ parts. record {
+      protocol = parts.protocol;
+      footprints = parts.footprints;
+      fields = parts.fields;
+    } };
 }
 
 impl AdvertSettings {

@@ -1,5 +1,6 @@
 pub mod Ahead
 pub mod Behind
+pub mod Buffer
 pub mod Desk
 pub mod Hub
 pub mod Parked

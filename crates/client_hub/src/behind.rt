@@ -168,7 +168,7 @@ fn is_close(option: &[u8]) -> bool
 }
 
 // without blanks at its ends
-fn trimmed(text: &[u8]) -> &[u8]
+pub(crate) fn trimmed(text: &[u8]) -> &[u8]
     ensures { result.now ≡ trimmed text.now }
 {
     text.trim_ascii()

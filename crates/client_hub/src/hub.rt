@@ -6,6 +6,7 @@ ghost use Rattle.http_wire.specs.declared.limits.TheConstants.{HEAD_MAX};
 ghost use Rattle.client_hub.specs.Hub.{given_of, moment_or, refusal_of, IsClientGiven, IsClientIp, IsGivenWith};
 
 use crate::ahead::{Front, front_of};
+use crate::buffer::widen;
 use crate::desk::Desk;
 use crate::parked::{LISTENER, Lot, Parked};
 use crate::post::Post;
@@ -16,6 +17,7 @@ use sockets::{Moved, Room, Waits, Woken, clock_of, wait_for_one};
 use std::alloc::Global;
 use std::net::{IpAddr, Net, SocketAddr, TcpListener, TcpStream};
 use std::os::fd::{AsRawFd, OwnedFd, RawFd};
+use std::rt::Files;
 use std::sync::atomic::{AtomicU64, Ordering};
 use std::sync::{Condvar, Mutex, Wait};
 use std::time::{Clock, Duration};
@@ -88,17 +90,19 @@ pub(crate) enum Refusal {
 }
 
 impl Hub {
-    /// A hub of this listener, whose connections wait so.
+    /// A hub of this listener, whose connections wait so. Of what is written to them the system takes as much at once as it
+    /// may, where that is more than it comes to by itself.
     ///
     /// # Errors
     /// What the system says of the listener's options or of the epoll.
-    pub fn new<N: Net>(
+    pub fn new<N: Net + Files>(
         net: &N,
         alloc: Global,
         listener: TcpListener,
         waits: Waits,
     ) -> io::Result<Hub> {
         let listener = with_options(listener)?;
+        widen(net, &listener);
         let poll = Poll::new(net)?;
         let hub = Hub {
             listener,

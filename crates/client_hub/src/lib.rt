@@ -4,6 +4,7 @@
 
 mod ahead;
 mod behind;
+mod buffer;
 mod desk;
 mod hub;
 pub mod numbers;

@@ -80,12 +80,6 @@ impl<N: Net<Listener = TcpListener, Stream = TcpStream> + Wait + Clock + Clone +
         OutsideFault::Failed
     }
 
-    // a hub that listens at this address; none where that fails
-    fn open(&self, alloc: Global, ip: Ip, port: u16) -> Option<Hub> {
-        let listener = TcpListener::bind(&self.net, address(ip, port)).ok()?;
-        Hub::new(&self.net, alloc, listener, self.waits).ok()
-    }
-
     // a worker with a door of this hub
     fn worker_of(
         &self,
@@ -100,6 +94,18 @@ impl<N: Net<Listener = TcpListener, Stream = TcpStream> + Wait + Clock + Clone +
         let clock = WallClock::new(self.net.clone()?);
         Ok(Worker { door, gate, clock })
     }
+}
+
+// a hub that listens at this address and waits so; none where that fails
+fn open<N: Net<Listener = TcpListener, Stream = TcpStream> + Files>(
+    net: &N,
+    waits: Waits,
+    alloc: Global,
+    ip: Ip,
+    port: u16,
+) -> Option<Hub> {
+    let listener = TcpListener::bind(net, address(ip, port)).ok()?;
+    Hub::new(net, alloc, listener, waits).ok()
 }
 
 // the address and the port
@@ -139,7 +145,7 @@ impl<
         let Some((ip, port)) = read_address(address) else {
             return Err(OutsideFault::BadAddress);
         };
-        let Some(hub) = self.open(alloc, ip, port) else {
+        let Some(hub) = open(&self.net, self.waits, alloc, ip, port) else {
             return Err(self.fault());
         };
         match Arc::new(alloc, hub) {

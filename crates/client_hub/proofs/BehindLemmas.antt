@@ -9,7 +9,7 @@ use Rattle.std.proofs.lemmas.List.Sums.{fails_before_first}
 use Rattle.http_wire.specs.Fields.{is_name, values_of}
 use Rattle.listing.specs.Number.{number_of_digits}
 use Rattle.listing.specs.Word.{parts_at}
-use Rattle.client_hub.specs.Behind.{trimmed, but_last, lines_of, is_empty_line, head_lines, one_length, length_beside, body_of, fields_of, says_close, asks_for_end, with_field, with_line}
+use Rattle.client_hub.specs.Behind.{trimmed, but_last, lines_of, is_empty_line, head_lines, one_length, length_beside, body_of, fields_of, says_close, says_continue, asks_for_end, asks_for_word, with_field, with_line}
 use Rattle.client_hub.specs.declared.ahead.TheConstants.{LINE_FEED}
 use Rattle.client_hub.specs.declared.behind.Told.{Told}
 
@@ -95,6 +95,9 @@ body_rest told fields =
 abbrev pub last_rest : Told → List (List ℕ × List ℕ) → Bool
 last_rest told fields = told.last || asks_for_end fields
 
+abbrev pub expects_rest : Told → List (List ℕ × List ℕ) → Bool
+expects_rest told fields = told.expects || asks_for_word fields
+
 -- behind nothing they tell what they tell
 one_rest_first : (values : List (List ℕ)) → one_rest (Some 0) false values ≡ one_length values
 one_rest_first [] = refl
@@ -105,7 +108,7 @@ rest_first : (lengths codings : List (List ℕ)) → rest_beside (Some 0) false 
 rest_first lengths [] = one_rest_first lengths
 rest_first lengths (coding ∷ codings) = refl
 
-pub body_first : (last : Bool) (fields : List (List ℕ × List ℕ)) → body_rest (record { body = Some 0; framed = false; last = last }) fields ≡ body_of fields
+pub body_first : (last : Bool) (fields : List (List ℕ × List ℕ)) → body_rest (record { body = Some 0; framed = false; last = last; expects = false }) fields ≡ body_of fields
 body_first last fields = rest_first (values_of (codes "content-length") fields) (values_of (codes "transfer-encoding") fields)
 
 -- what is not told any more stays so
@@ -157,16 +160,21 @@ body_more told field fields =
     ∙ ap (λ values. rest_beside told.body told.framed values (cond (is_name (codes "transfer-encoding") field) (field.1 ∷ codings) codings)) (sym (values_more (codes "content-length") field fields))
     ∙ ap (λ values. rest_beside told.body told.framed (values_of (codes "content-length") (field ∷ fields)) values) (sym (values_more (codes "transfer-encoding") field fields))
 
-close_more : (last is_connection : Bool) (value : List ℕ) (values : List (List ℕ))
-    → ((last || (is_connection && says_close value)) || list_any says_close values) ≡ (last || list_any says_close (cond is_connection (value ∷ values) values))
-close_more true is_connection value values = refl
-close_more false true value values = refl
-close_more false false value values = refl
+any_more : (says : List ℕ → Bool) (told is_it : Bool) (value : List ℕ) (values : List (List ℕ))
+    → ((told || (is_it && says value)) || list_any says values) ≡ (told || list_any says (cond is_it (value ∷ values) values))
+any_more says true is_it value values = refl
+any_more says false true value values = refl
+any_more says false false value values = refl
 
 last_more : (told : Told) (field : List ℕ × List ℕ) (fields : List (List ℕ × List ℕ)) → last_rest (with_field told field) fields ≡ last_rest told (field ∷ fields)
 last_more told field fields =
-    close_more told.last (is_name (codes "connection") field) field.1 (values_of (codes "connection") fields)
+    any_more says_close told.last (is_name (codes "connection") field) field.1 (values_of (codes "connection") fields)
     ∙ ap (λ values. told.last || list_any says_close values) (sym (values_more (codes "connection") field fields))
+
+expects_more : (told : Told) (field : List ℕ × List ℕ) (fields : List (List ℕ × List ℕ)) → expects_rest (with_field told field) fields ≡ expects_rest told (field ∷ fields)
+expects_more told field fields =
+    any_more says_continue told.expects (is_name (codes "expect") field) field.1 (values_of (codes "expect") fields)
+    ∙ ap (λ values. told.expects || list_any says_continue values) (sym (values_more (codes "expect") field fields))
 
 body_found : (told : Told) (found : Option (List ℕ × List ℕ)) (fields : List (List ℕ × List ℕ)) → body_rest (option_map_or (with_field told) found told) fields ≡ body_rest told (cons_option found fields)
 body_found told None fields = refl
@@ -176,9 +184,16 @@ last_found : (told : Told) (found : Option (List ℕ × List ℕ)) (fields : Lis
 last_found told None fields = refl
 last_found told (Some field) fields = last_more told field fields
 
+expects_found : (told : Told) (found : Option (List ℕ × List ℕ)) (fields : List (List ℕ × List ℕ)) → expects_rest (option_map_or (with_field told) found told) fields ≡ expects_rest told (cons_option found fields)
+expects_found told None fields = refl
+expects_found told (Some field) fields = expects_more told field fields
+
 -- one line more
 pub body_line : (told : Told) (line : List ℕ) (lines : List (List ℕ)) → body_rest (with_line told line) (fields_of lines) ≡ body_rest told (fields_of (line ∷ lines))
 body_line told line lines = body_found told (parts_at 58 line) (fields_of lines)
 
 pub last_line : (told : Told) (line : List ℕ) (lines : List (List ℕ)) → last_rest (with_line told line) (fields_of lines) ≡ last_rest told (fields_of (line ∷ lines))
 last_line told line lines = last_found told (parts_at 58 line) (fields_of lines)
+
+pub expects_line : (told : Told) (line : List ℕ) (lines : List (List ℕ)) → expects_rest (with_line told line) (fields_of lines) ≡ expects_rest told (fields_of (line ∷ lines))
+expects_line told line lines = expects_found told (parts_at 58 line) (fields_of lines)

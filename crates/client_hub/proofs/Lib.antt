@@ -1,1 +1,4 @@
 pub mod BehindLemmas
+pub mod GatheredLemmas
+pub mod HubLemmas
+pub mod MessageLemmas

@@ -1,5 +1,5 @@
 -- What follows a head (RFC 9112, sections 2, 5, 6 and 9.6).
-use Rattle.std.specs.Prelude.{ℕ, ◌-◌, Bool, true, List, [], ◌∷◌, length, take, drop, codes, bytes_eq, nat_eq, ◌==◌, ◌||◌, ◌&&◌, if◌then◌else◌, None, Some}
+use Rattle.std.specs.Prelude.{ℕ, ◌-◌, Bool, true, false, not, List, [], ◌∷◌, length, take, drop, codes, bytes_eq, nat_eq, ◌==◌, ◌||◌, ◌&&◌, if◌then◌else◌, None, Some}
 use Rattle.std.specs.List.{slice_split, prefix_len, suffix_len, filter_map, list_any, ends_with}
 use Rattle.std.specs.Char.{is_ascii_whitespace}
 use Rattle.std.specs.Option.{option_map_or}
@@ -74,6 +74,14 @@ says_close options = list_any is_close (slice_split (λ byte. byte == 44) option
 abbrev pub asks_for_end : List (List ℕ × List ℕ) → Bool
 asks_for_end fields = list_any says_close (values_of (codes "connection") fields)
 
+-- `100-continue` is expected, in any case (RFC 9110, section 10.1.1)
+abbrev pub says_continue : List ℕ → Bool
+says_continue value = str_eq_ignore_ascii_case (trimmed value) (codes "100-continue")
+
+-- an Expect field says that the client waits for word before it sends its body
+abbrev pub asks_for_word : List (List ℕ × List ℕ) → Bool
+asks_for_word fields = list_any says_continue (values_of (codes "expect") fields)
+
 -- the line of a request ends with `HTTP/1.0`
 abbrev pub says_old_version : List ℕ → Bool
 says_old_version line = ends_with nat_eq (trimmed line) (codes "HTTP/1.0")
@@ -83,6 +91,11 @@ abbrev pub is_last : List (List ℕ) → Bool
 is_last [] = true
 is_last (line ∷ lines) = says_old_version line || asks_for_end (fields_of lines)
 
+-- the client waits for word; what a client of the old version says of that is passed over
+abbrev pub waits_for_word : List (List ℕ) → Bool
+waits_for_word [] = false
+waits_for_word (line ∷ lines) = asks_for_word (fields_of lines) && not (says_old_version line)
+
 -- how many bytes of a body a head tells
 abbrev pub body_behind : List ℕ → Option ℕ
 body_behind head = body_of (fields_of (drop 1 (head_lines (lines_of head))))
@@ -90,6 +103,10 @@ body_behind head = body_of (fields_of (drop 1 (head_lines (lines_of head))))
 -- the head asks for the end of the connection
 abbrev pub ends_behind : List ℕ → Bool
 ends_behind head = is_last (head_lines (lines_of head))
+
+-- the client waits for word that it may send the body
+abbrev pub expects_behind : List ℕ → Bool
+expects_behind head = waits_for_word (head_lines (lines_of head))
 
 -- the length that is told with one field more
 abbrev pub body_with : Told → Bool → Bool → List ℕ → Option ℕ
@@ -103,6 +120,7 @@ with_field told field = record {
   body = body_with told (is_name (codes "content-length") field) (is_name (codes "transfer-encoding") field) field.1;
   framed = told.framed || (is_name (codes "content-length") field || is_name (codes "transfer-encoding") field);
   last = told.last || (is_name (codes "connection") field && says_close field.1);
+  expects = told.expects || (is_name (codes "expect") field && says_continue field.1);
 }
 
 -- what is told with one line more

@@ -9,6 +9,7 @@ use Rattle.client_hub.specs.declared.hub.Look.{Look}
 use Rattle.client_hub.specs.declared.hub.Look.TheVariants as look
 use Rattle.client_hub.specs.declared.hub.Refusal.{Refusal}
 use Rattle.client_hub.specs.declared.hub.Refusal.TheVariants.{Fault, Full, Passing}
+use Rattle.client_hub.specs.declared.hub.Taken.{Taken}
 use Rattle.client_hub.specs.declared.parked.Parked.{Parked}
 
 -- EBADF, EINVAL and ENOTSOCK say that the listener is none; ENFILE, EMFILE, ENOMEM and ENOBUFS that nothing is left for
@@ -33,16 +34,29 @@ IsClientIp told number = (canonical : IpAddr)
 abbrev pub moment_or : ℕ → ℕ → ℕ
 moment_or moment now = if moment == 0 then now else moment
 
--- the connection of a parked one, for a worker
-abbrev pub given_of : Parked → Look
-given_of parked = look.Given (record { stream = parked.stream; ip = parked.ip; token = parked.token })
+-- what is given to a worker is this connection
+abbrev pub IsConnectionOf : Parked → Taken → Type 0
+IsConnectionOf parked taken = (taken.stream ≡ parked.stream) × (taken.ip ≡ parked.ip) × (taken.token ≡ parked.token)
+
+-- this connection is given to a worker, with these bytes of its message that have no place in the room
+abbrev pub IsGivenOf : Parked → List ℕ → Look → Type 0
+IsGivenOf parked rest (look.Given taken) = IsConnectionOf parked taken × (taken.rest ≡ rest)
+IsGivenOf parked rest look.Nothing = ⊥
+IsGivenOf parked rest look.Fault = ⊥
 
 -- a connection that is given to a worker is this one, and the bytes that came stand in the room behind those that it had
 abbrev pub IsGivenWith : Parked → List ℕ → List ℕ → Look → Type 0
 IsGivenWith parked had new (look.Given taken) =
-    (look.Given taken ≡ given_of parked) × ((came : List ℕ) × (new ≡ had ++ came))
+    IsConnectionOf parked taken × ((came : List ℕ) × (new ≡ had ++ came))
 IsGivenWith parked had new look.Nothing = Unit {0}
 IsGivenWith parked had new look.Fault = ⊥
+
+-- a worker that is given a connection has all bytes that came before, and those that came now behind them: the first of
+-- them in the room, and the others behind
+abbrev pub IsGivenWhole : List ℕ → List ℕ → Look → Type 0
+IsGivenWhole had new (look.Given taken) = (came : List ℕ) × (new ++ taken.rest ≡ had ++ came)
+IsGivenWhole had new look.Nothing = Unit {0}
+IsGivenWhole had new look.Fault = ⊥
 
 -- a connection that is given has the number of some address, as it is told of a client
 abbrev pub IsClientGiven : Look → Type 0

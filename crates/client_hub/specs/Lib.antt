@@ -3,5 +3,6 @@ pub mod Behind
 pub mod Buffer
 pub mod Desk
 pub mod Hub
+pub mod Message
 pub mod Parked
 pub mod Post

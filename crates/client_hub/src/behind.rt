@@ -1,10 +1,11 @@
 //! What follows a head: how many bytes of a body, and whether the connection ends behind it (RFC 9112, sections 6 and
 //! 9.6).
 
-ghost use Rattle.std.specs.Prelude.{◌≡◌, ◌∷◌, ◌||◌, [], codes, IfNone, IfSome};
+ghost use Rattle.std.specs.Prelude.{◌≡◌, ◌∷◌, ◌||◌, ◌&&◌, not, [], codes, IfNone, IfSome};
 ghost use Rattle.http_wire.specs.Fields.{is_name};
 ghost use Rattle.client_hub.specs.Behind.{lines_of, head_lines, fields_of, body_of, asks_for_end, is_close, says_close, trimmed};
 ghost use Rattle.client_hub.specs.Behind.{says_old_version, body_behind, ends_behind, body_with, with_field, with_line};
+ghost use Rattle.client_hub.specs.Behind.{says_continue, asks_for_word, expects_behind};
 
 use crate::ahead::{LINE_FEED, is_empty_line};
 use listing::{cut_at, read_digits};
@@ -16,6 +17,8 @@ pub struct Behind {
     pub body: Option<u64>,
     /// Whether the client asked for the end of the connection.
     pub last: bool,
+    /// Whether the client waits for word that it may send the body (RFC 9110, section 10.1.1).
+    pub expects: bool,
 }
 
 // what the fields of a head told so far
@@ -25,6 +28,7 @@ struct Told {
     // whether a length or a coding was told
     framed: bool,
     last: bool,
+    expects: bool,
 }
 
 /// What follows this head (RFC 9112, section 6). Where the length of its body is told twice, or not in digits, or in another
@@ -32,12 +36,14 @@ struct Told {
 pub fn what_follows(head: &[u8]) -> Behind
     ensures body { result.body ≡ body_behind head.now }
     ensures last { result.last ≡ ends_behind head.now }
+    ensures expects { result.expects ≡ expects_behind head.now }
 {
     match request_line(head) {
         Some((line, fields)) => told_by(says_old_version(line), fields),
         None => Behind {
             body: Some(0),
             last: true,
+            expects: false,
         },
     }
 }
@@ -65,11 +71,13 @@ fn request_line(head: &[u8]) -> Option<(&[u8], &[u8])>
 fn told_by(last: bool, fields: &[u8]) -> Behind
     ensures body { result.body ≡ body_of (fields_of (lines_of fields.now)) }
     ensures last { result.last ≡ (last || asks_for_end (fields_of (lines_of fields.now))) }
+    ensures expects { result.expects ≡ (asks_for_word (fields_of (lines_of fields.now)) && not last) }
 {
     let mut told = Told {
         body: Some(0),
         framed: false,
         last,
+        expects: false,
     };
     let mut rest = fields;
     'lines: loop {
@@ -79,12 +87,20 @@ fn told_by(last: bool, fields: &[u8]) -> Behind
                 rest = others;
             }
             None => {
-                return Behind {
-                    body: told.body,
-                    last: told.last,
-                };
+                return behind_of(told, last);
             }
         }
+    }
+}
+
+// what follows where so much is told, and the request line says whether the version is the old one
+fn behind_of(told: Told, old: bool) -> Behind
+    ensures { result ≡ record { body = told.body; last = told.last; expects = told.expects && not old } }
+{
+    Behind {
+        body: told.body,
+        last: told.last,
+        expects: told.expects && !old,
     }
 }
 
@@ -108,6 +124,7 @@ fn with_field(told: Told, name: &[u8], value: &[u8]) -> Told
         body: body_with(told, is_length, is_coding, value),
         framed: told.framed || (is_length || is_coding),
         last: told.last || (is_name(name, b"connection") && says_close(value)),
+        expects: told.expects || (is_name(name, b"expect") && says_continue(value)),
     }
 }
 
@@ -165,6 +182,13 @@ fn is_close(option: &[u8]) -> bool
     ensures { result ≡ is_close option.now }
 {
     trimmed(option).eq_ignore_ascii_case(b"close")
+}
+
+// whether `100-continue` is expected
+fn says_continue(value: &[u8]) -> bool
+    ensures { result ≡ says_continue value.now }
+{
+    trimmed(value).eq_ignore_ascii_case(b"100-continue")
 }
 
 // without blanks at its ends

@@ -1,15 +1,22 @@
 //! The one place where the workers find their connections.
 
-ghost use Rattle.std.specs.Prelude.{◌≡◌, ◌==◌, [], length, take, if◌then◌else◌, IfSome};
+ghost use Rattle.std.specs.Prelude.{ℕ, ◌≡◌, ◌≤◌, ◌==◌, [], length, take, drop, is_some, if◌then◌else◌, IfSome};
+ghost use Rattle.std.specs.Option.{option_and_then};
 ghost use Rattle.std.specs.Net.Socket.{socket_ip};
 ghost use Rattle.http_wire.specs.declared.limits.TheConstants.{HEAD_MAX};
-ghost use Rattle.client_hub.specs.Hub.{given_of, moment_or, refusal_of, IsClientGiven, IsClientIp, IsGivenWith};
+ghost use Rattle.client_hub.specs.Behind.{body_behind};
+ghost use Rattle.client_hub.specs.Hub.{moment_or, refusal_of, IsClientGiven, IsClientIp, IsGivenOf, IsGivenWhole, IsGivenWith};
+ghost use Rattle.client_hub.specs.Message.{awaited_with};
 
 use crate::ahead::{Front, front_of};
+use crate::behind::what_follows;
 use crate::buffer::widen;
 use crate::desk::Desk;
-use crate::parked::{LISTENER, Lot, Parked};
+use crate::message::{READS, awaited, go_on, read_message, waited_for};
+use crate::parked::{LISTENER, Lot, Parked, Waiting};
 use crate::post::Post;
+use crate::rest::Rest;
+use http_wire::HEAD_MAX;
 use libc::net as c;
 use location_acl::Ip;
 use mio::Poll;
@@ -57,7 +64,7 @@ pub struct Hub {
     pub waits: Waits,
 }
 
-/// A connection for a worker, whose bytes so far stand in the worker's room.
+/// A connection for a worker, whose bytes so far stand in the worker's room, and the others behind them.
 #[derive(Drop)]
 pub struct Taken {
     pub stream: TcpStream,
@@ -65,6 +72,8 @@ pub struct Taken {
     pub ip: Ip,
     /// Its token.
     pub token: u64,
+    /// What came of its message and has no place in the room.
+    pub rest: Rest,
 }
 
 /// What looking for a connection gave.
@@ -193,10 +202,83 @@ impl Hub {
         parked: Parked,
         room: &mut Room,
     ) -> Look
-        ensures { IsGivenWith parked (take HEAD_MAX parked.got.items) room.new result }
+        ensures given { IsGivenWith parked (take HEAD_MAX parked.got.items) room.new result }
+        ensures whole { (count : ℕ) → parked.waiting ≡ Waiting.Message count → IsGivenWhole parked.got.items room.new result }
     {
-        room.hold(parked.got.as_slice());
-        self.receive(rt, alloc, parked, room)
+        match parked.waiting {
+            Waiting::Head => {
+                room.hold(parked.got.as_slice());
+                self.receive(rt, alloc, parked, room)
+            }
+            Waiting::Message(whole) => self.gather(rt, parked, whole, room),
+            Waiting::End(left) => {
+                self.pass_over(rt, parked, left, room);
+                Look::Nothing
+            }
+        }
+    }
+
+    // reads of a message whose head came; gives it where it is whole, or its client sends no more
+    fn gather<W: Wait + Clock>(&self, rt: &W, parked: Parked, whole: usize, room: &mut Room) -> Look
+        ensures given { IsGivenWith parked (take HEAD_MAX parked.got.items) room.new result }
+        ensures whole { IsGivenWhole parked.got.items room.new result }
+    {
+        let mut parked = parked;
+        let before = parked.got.len();
+        match read_message(&parked.stream, &mut parked.got, whole) {
+            Moved::End => {
+                room.hold(parked.got.as_slice());
+                return given_whole(parked);
+            }
+            Moved::Failed => self.forget(rt, parked.token),
+            _ => {
+                let came = parked.got.len().saturating_sub(before);
+                self.wait_for_message(rt, parked, came);
+            }
+        }
+        Look::Nothing
+    }
+
+    // Parks a connection of whose message so many bytes came, until more come. What came of all messages together is kept
+    // within its limit.
+    fn wait_for_message<W: Wait + Clock>(&self, rt: &W, parked: Parked, came: usize) {
+        self.park(rt, parked);
+        let now = clock_of(rt);
+        let mut desk = self.desk.lock(rt);
+        if desk.lot.note_bytes(came) {
+            desk.lot.keep_within(now);
+        }
+    }
+
+    // reads what a client still sends whose connection has ended, up to so many bytes, and does not look at it
+    fn pass_over<W: Wait>(&self, rt: &W, parked: Parked, left: usize, room: &mut Room) {
+        let mut left = left;
+        for _ in 0..READS {
+            room.clear();
+            match room.fill(&parked.stream, false) {
+                Moved::Some(count) => left = left.saturating_sub(count),
+                Moved::Later => break,
+                _ => left = 0,
+            }
+            if left == 0 {
+                self.forget(rt, parked.token);
+                return;
+            }
+        }
+        self.park(rt, ending(parked, left));
+    }
+
+    /// Parks a connection that is closed for writing until its client has ended too, or has sent so many bytes more, or for
+    /// as long as is waited for that; then it is closed.
+    pub fn let_end<W: Wait + Clock>(&self, rt: &W, parked: Parked, left: usize) {
+        let now = clock_of(rt);
+        self.park(
+            rt,
+            Parked {
+                since: now,
+                ..ending(parked, left)
+            },
+        );
     }
 
     /// Accepts one connection, and reads of it.
@@ -247,24 +329,39 @@ impl Hub {
         match room.fill(&parked.stream, false) {
             Moved::Some(_) => match front_of(room.bytes()) {
                 Front::Open => self.park_again(rt, alloc, parked, room),
-                _ => return given(parked),
+                Front::Whole(end) if lacks(room.bytes(), end) => {
+                    self.park_again(rt, alloc, parked, room)
+                }
+                _ => return given(alloc, parked),
             },
             Moved::Later => self.park_again(rt, alloc, parked, room),
-            Moved::End if !room.bytes().is_empty() => return given(parked),
+            Moved::End if !room.bytes().is_empty() => return given(alloc, parked),
             _ => self.forget(rt, parked.token),
         }
         Look::Nothing
     }
 
     /// Parks a connection with the bytes that stand in the room, in place of its own; closes it where there is no memory for
-    /// them.
+    /// them. Where they have a whole head, and not the whole body that it tells, it waits for that, and its client has word
+    /// where it waits for that before it sends it.
     pub fn park_again<W: Wait + Clock>(&self, rt: &W, alloc: Global, parked: Parked, room: &Room) {
-        match copied(alloc, room) {
-            Some(got) => {
-                let now = clock_of(rt);
-                self.park(rt, parked_with(parked, got, now));
+        let waited = waited_for(room.bytes());
+        let asks = matches!(waited, Some((_, true)));
+        if asks && !go_on(&parked.stream) {
+            self.forget(rt, parked.token);
+            return;
+        }
+        let Some(got) = copied(alloc, room) else {
+            self.forget(rt, parked.token);
+            return;
+        };
+        let now = clock_of(rt);
+        match waited {
+            Some((whole, _)) => {
+                let came = got.len();
+                self.wait_for_message(rt, gathering(parked, got, whole, now), came);
             }
-            None => self.forget(rt, parked.token),
+            None => self.park(rt, parked_with(parked, got, now)),
         }
     }
 }
@@ -281,6 +378,7 @@ fn parked_with(parked: Parked, got: Vec<u8>, now: u64) -> Parked
     ensures got { result.got ≡ got }
     ensures since { result.since ≡ moment_or parked.since now }
     ensures born { result.born ≡ (if length got.items == 0 then 0 else moment_or parked.born now) }
+    ensures waiting { result.waiting ≡ Waiting.Head }
     ensures others { (result.stream ≡ parked.stream) × (result.ip ≡ parked.ip) × (result.token ≡ parked.token) }
 {
     let born = if got.is_empty() {
@@ -291,11 +389,56 @@ fn parked_with(parked: Parked, got: Vec<u8>, now: u64) -> Parked
     Parked {
         stream: parked.stream,
         ip: parked.ip,
+        waiting: Waiting::Head,
         got,
         since: or_now(parked.since, now),
         born,
         token: parked.token,
     }
+}
+
+// the connection with these bytes of its next message, whose head they have, and which has so many; it is waited for since
+// this moment
+fn gathering(parked: Parked, got: Vec<u8>, whole: usize, now: u64) -> Parked
+    ensures got { result.got ≡ got }
+    ensures waiting { result.waiting ≡ Waiting.Message whole }
+    ensures moments { (result.since ≡ moment_or parked.since now) × (result.born ≡ now) }
+    ensures others { (result.stream ≡ parked.stream) × (result.ip ≡ parked.ip) × (result.token ≡ parked.token) }
+{
+    Parked {
+        stream: parked.stream,
+        ip: parked.ip,
+        waiting: Waiting::Message(whole),
+        got,
+        since: or_now(parked.since, now),
+        born: now,
+        token: parked.token,
+    }
+}
+
+// the connection, of which so many bytes more are read at most
+fn ending(parked: Parked, left: usize) -> Parked
+    ensures waiting { result.waiting ≡ Waiting.End left }
+    ensures moments { (result.since ≡ parked.since) × (result.born ≡ parked.born) }
+    ensures others { (result.stream ≡ parked.stream) × (result.ip ≡ parked.ip) × (result.token ≡ parked.token) }
+{
+    Parked {
+        stream: parked.stream,
+        ip: parked.ip,
+        waiting: Waiting::End(left),
+        got: parked.got,
+        since: parked.since,
+        born: parked.born,
+        token: parked.token,
+    }
+}
+
+// whether the body is not there that is told by the head which ends there
+fn lacks(bytes: &[u8], end: usize) -> bool
+    requires { end ≤ length bytes.now }
+    ensures { result ≡ is_some (option_and_then (λ body. awaited_with body end (length bytes.now)) (body_behind (take end bytes.now))) }
+{
+    awaited(&what_follows(&bytes[..end]), end, bytes.len()).is_some()
 }
 
 // a connection that was accepted, with the address that came with it: nothing came of it yet
@@ -304,10 +447,12 @@ fn accepted(alloc: Global, stream: TcpStream, addr: SocketAddr, token: u64) -> P
     ensures stream { result.stream ≡ stream }
     ensures token { result.token ≡ token }
     ensures nothing { (result.got.items ≡ []) × (result.since ≡ 0) × (result.born ≡ 0) }
+    ensures waiting { result.waiting ≡ Waiting.Head }
 {
     Parked {
         stream,
         ip: ip_of(addr),
+        waiting: Waiting::Head,
         got: Vec::new(alloc),
         since: 0,
         born: 0,
@@ -335,14 +480,27 @@ fn or_now(moment: u64, now: u64) -> u64
     if moment == 0 { now } else { moment }
 }
 
-// this connection, for a worker
-fn given(parked: Parked) -> Look
-    ensures { result ≡ given_of parked }
+// this connection, for a worker that has its bytes
+fn given(alloc: Global, parked: Parked) -> Look
+    ensures { IsGivenOf parked [] result }
 {
     Look::Given(Taken {
         stream: parked.stream,
         ip: parked.ip,
         token: parked.token,
+        rest: Rest::none(alloc),
+    })
+}
+
+// this connection, for a worker that has as many of its bytes as there is room for, with the others
+fn given_whole(parked: Parked) -> Look
+    ensures { IsGivenOf parked (drop HEAD_MAX parked.got.items) result }
+{
+    Look::Given(Taken {
+        stream: parked.stream,
+        ip: parked.ip,
+        token: parked.token,
+        rest: Rest::behind(parked.got, HEAD_MAX),
     })
 }
 

@@ -7,13 +7,17 @@ mod behind;
 mod buffer;
 mod desk;
 mod hub;
+mod message;
 pub mod numbers;
 mod parked;
 mod post;
+mod rest;
 mod watch;
 
 pub use ahead::{Front, front_of};
 pub use behind::{Behind, what_follows};
 pub use desk::{Stance, Task};
 pub use hub::{Hub, Look, Taken};
-pub use parked::Parked;
+pub use message::{BODY_MAX, awaited};
+pub use parked::{Parked, Waiting};
+pub use rest::Rest;

@@ -1,15 +1,16 @@
 //! Connections that are open, and which of them have something for a worker.
 
-ghost use Rattle.std.specs.Prelude.{◌≡◌, ◌<◌, ◌+◌, ◌∷◌, ◌++◌, [], true, Some, None, nat_eq, not, drop, filter, length, IfSome, IfNone, IsSome, IsTrue, ◌↔◌};
+ghost use Rattle.std.specs.Prelude.{◌≡◌, ◌⊎◌, ◌<◌, ◌≤◌, ◌+◌, ◌-◌, ◌^◌, ◌∷◌, ◌++◌, [], ℕ, min, true, Option, Some, None, nat_eq, not, drop, filter, length, if◌then◌else◌, IfSome, IfNone, IsSome, IsTrue, ◌↔◌};
 ghost use Rattle.std.specs.VecDeque.{deque_len, deque_capacity};
 ghost use Rattle.std.specs.Option.{option_to_list};
-ghost use Rattle.indexmap.specs.IndexMap.{index_map_len, IsEmpty, IsUnchanged, Updates};
-ghost use Rattle.client_hub.specs.declared.parked.TheConstants.{LISTENER};
+ghost use Rattle.indexmap.specs.IndexMap.{index_map_len, values, IsEmpty, IsUnchanged, Updates};
+ghost use Rattle.client_hub.specs.declared.parked.TheConstants.{COUNTED_MAX, LISTENER, MESSAGES_MAX};
 ghost use Rattle.client_hub.specs.Parked.{is_late, is_expired, is_spare, is_favoured, new_slot, slot_at, parked_at, told_fd, with_parked, told, IsCounted, KeepsOrder};
+ghost use Rattle.client_hub.specs.Parked.{time_for, counted, gathered, gathered_by, gathered_in, gathered_without, is_old_message, is_old, left_after, with_came};
 
 use indexmap::IndexMap;
 use location_acl::Ip;
-use sockets::Waits;
+use sockets::{STEP_BYTES, Waits};
 use std::alloc::Global;
 use std::collections::VecDeque;
 use std::net::TcpStream;
@@ -21,17 +22,40 @@ pub(crate) const LISTENER: u64 = 0;
 /// After how many turns in a row a connection is the only one that asks.
 const STREAK: u64 = 16;
 
+/// How much what came of messages may take together, in bytes, before their workers have them.
+pub(crate) const MESSAGES_MAX: u64 = 67_108_864;
+
+/// What came of messages is counted again after so many bytes more.
+const COUNTED_MAX: u64 = 4_194_304;
+
+/// No message is waited for as long as this, in milliseconds.
+const LONGEST: u64 = 65_536;
+
+/// What a connection waits for that no worker has.
+#[derive(Clone, Copy, Debug, PartialEq, Eq)]
+pub enum Waiting {
+    /// The rest of its next head, or all of it.
+    Head,
+    /// The rest of its next message, whose head came: so many bytes with those that came.
+    Message(usize),
+    /// Its end. Up to so many bytes more are read and not looked at.
+    End(usize),
+}
+
 /// A connection that no worker has.
 #[derive(Drop)]
 pub struct Parked {
     pub stream: TcpStream,
     /// The address of its client.
     pub ip: Ip,
-    /// What came of its next head.
+    /// What it waits for.
+    pub waiting: Waiting,
+    /// What came of its next message.
     pub got: Vec<u8>,
     /// The millisecond at which it came, or ended its last request; 0 where that is not known yet.
     pub since: u64,
-    /// The millisecond of the first byte of its next head, 0 where none came.
+    /// The millisecond of the first byte of its next head, or of the last one where the rest of the message is waited for;
+    /// 0 where none came.
     pub born: u64,
     /// Its token.
     pub token: u64,
@@ -41,10 +65,49 @@ pub struct Parked {
 fn is_late(parked: &Parked, now: u64, waits: &Waits) -> bool
     ensures { result ≡ is_late now waits.now parked.now }
 {
-    if parked.got.is_empty() {
-        now.saturating_sub(parked.since) >= waits.idle
-    } else {
-        now.saturating_sub(parked.born) >= waits.head
+    match parked.waiting {
+        Waiting::Head => {
+            if parked.got.is_empty() {
+                now.saturating_sub(parked.since) >= waits.idle
+            } else {
+                now.saturating_sub(parked.born) >= waits.head
+            }
+        }
+        Waiting::Message(_) => now.saturating_sub(parked.born) >= time_for(parked.got.len(), waits),
+        Waiting::End(_) => now.saturating_sub(parked.since) >= waits.linger,
+    }
+}
+
+// how long a message may take of which so many bytes came
+fn time_for(count: usize, waits: &Waits) -> u64
+    ensures { result ≡ time_for count waits.now }
+{
+    let more = (count as u64 / STEP_BYTES).saturating_mul(waits.step);
+    waits.floor.saturating_add(more)
+}
+
+// how many bytes came of the message whose rest it waits for
+fn gathered_by(parked: &Parked) -> usize
+    ensures { result ≡ gathered_by parked.now }
+{
+    match parked.waiting {
+        Waiting::Head => 0,
+        Waiting::Message(_) => parked.got.len(),
+        Waiting::End(_) => 0,
+    }
+}
+
+// whether it waits for the rest of its message, since this moment or before; where none is told, since whenever
+fn is_old_message(parked: &Parked, moment: Option<u64>) -> bool
+    ensures { result ≡ is_old_message moment parked.now }
+{
+    match parked.waiting {
+        Waiting::Head => false,
+        Waiting::Message(_) => match moment {
+            Some(moment) => parked.born <= moment,
+            None => true,
+        },
+        Waiting::End(_) => false,
     }
 }
 
@@ -68,6 +131,8 @@ pub(crate) struct Lot {
     // which connection was given to a worker last, and how many times in a row
     last: u64,
     streak: u64,
+    // how many bytes of messages came since they were counted
+    came: u64,
 }
 
 impl Lot {
@@ -82,6 +147,7 @@ impl Lot {
             ready: VecDeque::new(alloc),
             last: 0,
             streak: 0,
+            came: 0,
         }
     }
 
@@ -267,5 +333,115 @@ impl Lot {
                 }
             },
         );
+    }
+
+    // notes that so many bytes of a message came; whether all are to be counted again
+    pub(crate) fn note_bytes(&mut self, count: usize) -> bool
+        ensures due { IsTrue result ↔ (COUNTED_MAX ≤ self.old.came + count) }
+        ensures noted { self.new ≡ with_came self.old (if result then 0 else self.old.came + count) }
+    {
+        let came = self.came.saturating_add(count as u64);
+        if came < COUNTED_MAX {
+            self.came = came;
+            return false;
+        }
+        self.came = 0;
+        true
+    }
+
+    // how many bytes came of messages whose rest is waited for, up to 2^64 - 1
+    fn gathered(&self) -> u64
+        ensures { result ≡ counted gathered_in (values self.now.slots) }
+    {
+        self.slots.values().fold(
+            0u64,
+            |sum: u64, slot: &Slot| -> u64
+                ensures { result ≡ min (sum + gathered_in slot.now) (2 ^ 64 - 1) }
+            { sum.saturating_add(gathered_in(slot)) },
+        )
+    }
+
+    // how many come of those alone that are left where the old ones are closed
+    fn gathered_without(&self, moment: Option<u64>) -> u64
+        ensures { result ≡ counted (gathered_without moment) (values self.now.slots) }
+    {
+        self.slots.values().fold(
+            0u64,
+            |sum: u64, slot: &Slot| -> u64
+                ensures { result ≡ min (sum + gathered_without moment slot.now) (2 ^ 64 - 1) }
+            { sum.saturating_add(gathered_without(slot, moment)) },
+        )
+    }
+
+    #[tactic(auto, using(crate::proofs::GatheredLemmas::left_within, crate::proofs::GatheredLemmas::none_within))]
+    // a moment such that what is left takes no more than it may where the messages are closed that were waited for then; none
+    // where all are to be closed
+    fn moment_for(&self, now: u64) -> Option<u64>
+        ensures { gathered (left_after result self.now) ≤ MESSAGES_MAX }
+    {
+        let mut moment = now.saturating_sub(LONGEST);
+        'moments: while moment < now {
+            if self.gathered_without(Some(moment)) <= MESSAGES_MAX {
+                return Some(moment);
+            }
+            moment += (now - moment) / 2 + 1;
+        }
+        None
+    }
+
+    #[tactic(auto, using(crate::proofs::GatheredLemmas::all_within, crate::proofs::GatheredLemmas::all_above))]
+    // Where what came of messages takes more than it may, closes those that are waited for longest.
+    pub(crate) fn keep_within(&mut self, now: u64)
+        ensures within { gathered self.new.slots.entries ≤ MESSAGES_MAX }
+        ensures oldest { (self.new.slots.entries ≡ self.old.slots.entries)
+            ⊎ ((moment : Option ℕ) × (self.new.slots.entries ≡ left_after moment self.old)) }
+        ensures spared { gathered self.old.slots.entries ≤ MESSAGES_MAX → self.new.slots.entries ≡ self.old.slots.entries }
+        ensures order { KeepsOrder self.old self.new }
+    {
+        if self.gathered() > MESSAGES_MAX {
+            let moment = self.moment_for(now);
+            self.close_messages(moment);
+        }
+    }
+
+    // closes the connections whose messages are waited for since this moment or before
+    fn close_messages(&mut self, moment: Option<u64>)
+        ensures kept { self.new.slots.entries ≡ left_after moment self.old }
+        ensures order { KeepsOrder self.old self.new }
+    {
+        self.slots.retain(
+            |_token: &u64, slot: &mut Slot| -> bool
+                ensures { (result ≡ not (is_old moment slot.old)) × (slot.new ≡ slot.old) }
+            {
+                match &slot.parked {
+                    Some(parked) => !is_old_message(parked, moment),
+                    None => true,
+                }
+            },
+        );
+    }
+}
+
+// how many bytes came of the message whose rest it waits for, where no worker has it
+fn gathered_in(slot: &Slot) -> u64
+    ensures { result ≡ gathered_in slot.now }
+{
+    match &slot.parked {
+        Some(parked) => gathered_by(parked) as u64,
+        None => 0,
+    }
+}
+
+// the same, and none where that message is waited for since this moment or before
+fn gathered_without(slot: &Slot, moment: Option<u64>) -> u64
+    ensures { result ≡ gathered_without moment slot.now }
+{
+    match &slot.parked {
+        Some(parked) => if is_old_message(parked, moment) {
+            0
+        } else {
+            gathered_by(parked) as u64
+        },
+        None => 0,
     }
 }

@@ -297,8 +297,8 @@ fn serves_clients_one_after_the_other(rt: HostRuntime) -> Result<(), Fail> {
         &rt,
         || serve_until(&rt, alloc, door, 10, OK),
         || {
-            let first = first_client(&rt, alloc, addr).unwrap_or(0);
             let second = second_client(&rt, alloc, addr).unwrap_or(0);
+            let first = first_client(&rt, alloc, addr).unwrap_or(0);
             (first, second)
         },
     );
@@ -568,7 +568,7 @@ fn slow_clients_are_given_up(rt: HostRuntime) -> Result<(), Fail> {
     let answer = answer.as_slice();
     let (served, good) = join(
         &rt,
-        || serve_until(&rt, alloc, door, 4, answer),
+        || serve_until(&rt, alloc, door, 3, answer),
         || slow_client(&rt, addr)
             .unwrap_or(0)
             .saturating_add(large_client(&rt, alloc, addr).unwrap_or(0))
@@ -580,7 +580,7 @@ fn slow_clients_are_given_up(rt: HostRuntime) -> Result<(), Fail> {
         served,
         Served {
             requests: 2,
-            read_faults: 1,
+            read_faults: 0,
             write_faults: 1,
             door_faults: 0
         }

@@ -18,9 +18,12 @@ pub use dial::{connect, origin_ends};
 pub use gate::TcpGate;
 pub use link::Link;
 pub use origin_source::OriginSource;
-pub use pace::Pace;
+pub use pace::{Pace, STEP_BYTES};
 pub use peer::{Peer, PeerName, peer_of};
-pub use ready::{Moved, Woken, clock_of, read_within, wait_for_one, wait_for_two, write_within};
+pub use ready::{
+    Moved, Woken, clock_of, read_now, read_within, wait_for_one, wait_for_two, write_now,
+    write_within,
+};
 pub use room::Room;
 pub use sink::SocketSink;
 pub use waits::{WAITS, Waits};

@@ -6,7 +6,7 @@ ghost use Rattle.sockets.specs.Pace.{left_of, after_move, after_wait};
 use crate::waits::Waits;
 
 /// The bytes that buy a slow peer one step more.
-const STEP_BYTES: u64 = 65_536;
+pub const STEP_BYTES: u64 = 65_536;
 
 /// The time that the bytes of one message have taken, and how much they may take, in milliseconds.
 #[derive(Clone, Copy, Debug)]

@@ -67,8 +67,8 @@ fn moved_by(answer: isize, room: usize) -> Moved
     }
 }
 
-// reads what has come, without waiting
-pub(crate) fn read_now(stream: &TcpStream, buf: &mut [u8]) -> Moved
+/// Reads what has come, without waiting.
+pub fn read_now(stream: &TcpStream, buf: &mut [u8]) -> Moved
     requires { 0 < length buf.old }
     ensures { IsMoved (length buf.new) result }
 {
@@ -87,8 +87,8 @@ pub(crate) fn read_soon(stream: &TcpStream, buf: &mut [u8]) -> Moved
     moved_by(got, buf.len())
 }
 
-// writes what there is room for, without waiting
-pub(crate) fn write_now(stream: &TcpStream, piece: &[u8]) -> Moved
+/// Writes what there is room for, without waiting.
+pub fn write_now(stream: &TcpStream, piece: &[u8]) -> Moved
     requires { 0 < length piece.now }
     ensures { IsMoved (length piece.now) result }
 {

@@ -27,7 +27,7 @@ pub const WAITS: Waits = Waits {
     head: 10_000,
     floor: 10_000,
     step: 1_000,
-    linger: 1_000,
+    linger: 10_000,
     connect: 3_000,
     quiet: 30_000,
     tick: 1_000,

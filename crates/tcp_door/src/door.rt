@@ -8,30 +8,29 @@ ghost use Rattle.tcp_door.specs.Door.{GivesIp};
 
 use crate::sink::ClientSink;
 use crate::source::{Left, Run, SocketSource};
-use client_hub::{Hub, Look, Parked, Taken, Task};
+use client_hub::{Hub, Look, Parked, Taken, Task, Waiting};
 use doors::{Accepted, Door};
-use libc::net as c;
-use sockets::{Link, Moved, Pace, Room, SocketSink, Woken, clock_of, wait_for_one};
+use sockets::{Link, Pace, Room, SocketSink};
 use std::alloc::{AllocError, Global};
 use std::net::{Shutdown, TcpStream};
-use std::os::fd::AsRawFd;
 use std::sync::{Arc, Wait};
 use std::thread::Threads;
 use std::time::Clock;
 
 /// How many bytes are read at most of a client that has not sent all, before its connection is closed.
-const LINGER_BYTES: usize = 65_536;
-
-/// How often a wait is begun again at most.
-const MOST_WAITS: u64 = u64::MAX;
+const LINGER_BYTES: usize = 8_388_608;
 
 /// Gives the connections of a TCP listener. It tells nothing of them.
 ///
 /// All doors of a listener share the connections that no worker has. Such a connection is given to a worker where a
-/// whole head came, or bytes that never become one: that is so where no head begins so (RFC 9112), and for 66 line
-/// feeds, for 16,384 bytes, and for bytes behind which the client sends no more. Before that it has no worker. A client
+/// whole head came with its body, or bytes that never become one: that is so where no head begins so (RFC 9112), and for 66
+/// line feeds, for 16,384 bytes, and for bytes behind which the client sends no more. Before that it has no worker. A body
+/// that is longer than 1,048,576 bytes, or whose length is not told, is not waited for so. A client
 /// that sends no more, and no byte before, is closed. So is a connection without a byte of a next request after 60
-/// seconds, and one with a part of a head ten seconds after the first byte of that head.
+/// seconds, one with a part of a head ten seconds after the first byte of that head, and one with a part of a body ten
+/// seconds after its head, and one second more for each 65,536 bytes that came. Where what came of bodies takes more than
+/// 64 MiB, those are closed that have waited longest. A client that waits for word before it sends its body has it at once
+/// (RFC 9110, section 10.1.1).
 ///
 /// A worker keeps its connection between two requests where no other one is open, or where it was given sixteen times in a
 /// row and no other one since. Else the connection goes back to the others and may be given again, to any worker. So a
@@ -43,8 +42,8 @@ const MOST_WAITS: u64 = u64::MAX;
 ///
 /// A client over IPv6 whose address holds an IPv4 address is given with that. Errors of accepting are passed over, but
 /// for those that say that the listener is none; where no descriptor is left, connections that wait for a second are
-/// closed. A connection that ends before its client has sent all is closed for writing, and up to 65,536 bytes of it
-/// are read for a second at most, so that its last answer arrives.
+/// closed. A connection that ends before its client has sent all is closed for writing, and up to 8,388,608 bytes of it
+/// are read for ten seconds at most, without a worker, so that its last answer arrives.
 #[derive(Drop)]
 pub struct TcpDoor<W: Wait + Clock + Clone + Drop> {
     hub: Arc<Hub, Global>,
@@ -145,14 +144,19 @@ impl<W: Wait + Clock + Clone + Drop> TcpDoor<W> {
         ensures source { IfOk result (λ ends. (arc_value ends.0.link).stream ≡ taken.stream) }
         ensures sink { IfOk result (λ ends. (arc_value ends.1.sink.link).stream ≡ taken.stream) }
     {
-        let Taken { stream, ip, token } = taken;
+        let Taken {
+            stream,
+            ip,
+            token,
+            rest,
+        } = taken;
         let link = Arc::new(alloc, Link::new(stream))?;
         let other = Arc::try_clone(&link)?;
         let hub = Arc::try_clone(&self.hub)?;
         let pace = Pace::of_client(&self.hub.waits);
         let sink = SocketSink::new(other, self.rt.clone()?, pace);
         let sink = ClientSink::new(Arc::try_clone(&self.hub)?, self.rt.clone()?, sink);
-        let source = SocketSource::new(hub, link, self.rt.clone()?, ip, token, room, pace);
+        let source = SocketSource::new(hub, link, self.rt.clone()?, ip, token, room, rest, pace);
         Ok((source, sink))
     }
 
@@ -174,21 +178,21 @@ impl<W: Wait + Clock + Clone + Drop> TcpDoor<W> {
             self.hub.forget(&self.rt, token);
             return room;
         };
+        let parked = Parked {
+            stream,
+            ip,
+            waiting: Waiting::Head,
+            got: Vec::new(self.alloc),
+            since,
+            born,
+            token,
+        };
         if run == Run::Yielded && !broken {
-            let parked = Parked {
-                stream,
-                ip,
-                got: Vec::new(self.alloc),
-                since,
-                born,
-                token,
-            };
             self.hub.park_again(&self.rt, self.alloc, parked, &room);
+        } else if run == Run::Going && !broken && unread {
+            let _ = parked.stream.shutdown(Shutdown::Write);
+            self.hub.let_end(&self.rt, parked, LINGER_BYTES);
         } else {
-            if run == Run::Going && !broken && unread {
-                self.hub.hand_over(&self.rt);
-                linger(&self.rt, &stream, &mut room, self.hub.waits.linger);
-            }
             self.hub.forget(&self.rt, token);
         }
         room.clear();
@@ -208,28 +212,6 @@ fn stream_of(link: Arc<Link, Global>) -> Option<TcpStream>
             },
         ) => Some(stream),
         None => None,
-    }
-}
-
-// sends the end, and reads for so many milliseconds what the client still sends
-fn linger<C: Clock>(rt: &C, stream: &TcpStream, room: &mut Room, time: u64) {
-    let _ = stream.shutdown(Shutdown::Write);
-    let start = clock_of(rt);
-    let mut count = 0usize;
-    for _ in 0..MOST_WAITS {
-        let left = time.saturating_sub(clock_of(rt).saturating_sub(start));
-        if left == 0 || count >= LINGER_BYTES {
-            return;
-        }
-        if wait_for_one(stream.as_raw_fd(), c::POLLIN, left) == Woken::Neither {
-            return;
-        }
-        room.clear();
-        match room.fill(stream, false) {
-            Moved::Some(more) => count = count.saturating_add(more),
-            Moved::Later => {}
-            _ => return,
-        }
     }
 }
 

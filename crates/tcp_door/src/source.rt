@@ -4,7 +4,7 @@ ghost use Rattle.std.specs.Prelude.{◌≡◌, ◌-◌, ◌<◌, ◌≤◌, leng
 ghost use Rattle.tcp_door.specs.Source.{IsPiece};
 ghost use Rattle.sockets.specs.Ready.{IsMoved};
 
-use client_hub::{Front, Hub, Stance, front_of, what_follows};
+use client_hub::{Front, Hub, Rest, Stance, awaited, front_of, what_follows};
 use edge_base::{Source, Took};
 use libc::net as c;
 use location_acl::Ip;
@@ -53,7 +53,7 @@ pub(crate) struct Left {
 ///
 /// It gives one head at a time, and the bytes of its body behind it (RFC 9112, section 6). Between two requests it ends
 /// where other connections ask too, or where nothing comes for 60 seconds, or where a part of a head came and the rest does
-/// not for ten seconds. The waits for the bytes of one body may take ten seconds in all, and one second more for each
+/// not for ten seconds, or where a whole head came and its body did not: that is waited for without a worker. The waits for the bytes of one body may take ten seconds in all, and one second more for each
 /// 65,536 bytes that came; past that the client is too slow, and the read fails. A failed read counts a fault.
 #[derive(Drop)]
 pub struct SocketSource<W: Wait + Clock + Drop> {
@@ -62,6 +62,8 @@ pub struct SocketSource<W: Wait + Clock + Drop> {
     rt: W,
     ip: Ip,
     room: Room,
+    // what came of the first message behind the bytes of the room
+    rest: Rest,
     // how many bytes of the message that is given are left; where that is not known, none
     body: Option<u64>,
     // the moment at which nothing had come, 0 where that was not looked at
@@ -87,12 +89,14 @@ impl<W: Wait + Clock + Drop> SocketSource<W> {
         ip: Ip,
         token: u64,
         room: Room,
+        rest: Rest,
         pace: Pace,
     ) -> SocketSource<W>
         ensures faults { result.faults ≡ 0 }
         ensures client { (result.ip ≡ ip) × (result.token ≡ token) }
         ensures link { result.link ≡ link }
         ensures room { result.room ≡ room }
+        ensures rest { result.rest ≡ rest }
     {
         SocketSource {
             hub,
@@ -100,6 +104,7 @@ impl<W: Wait + Clock + Drop> SocketSource<W> {
             rt,
             ip,
             room,
+            rest,
             body: Some(0),
             since: 0,
             born: 0,
@@ -135,6 +140,7 @@ impl<W: Wait + Clock + Drop> SocketSource<W> {
             rt: _,
             ip,
             room,
+            rest: _,
             body: _,
             since,
             born,
@@ -178,7 +184,12 @@ impl<W: Wait + Clock + Drop> SocketSource<W> {
         for _ in 0..MOST_WAITS {
             match front_of(self.room.bytes()) {
                 Front::Whole(end) => {
+                    let came = self.room.bytes().len();
                     let next = what_follows(&self.room.bytes()[..end]);
+                    if self.count > 0 && awaited(&next, end, came).is_some() {
+                        self.run = Run::Yielded;
+                        return Moved::End;
+                    }
                     let body = match next.body {
                         Some(body) => Some(body.saturating_add(end as u64)),
                         None => None,
@@ -309,6 +320,11 @@ impl<W: Wait + Clock + Drop> SocketSource<W> {
         let most = self.most_of(buf.len());
         if !self.room.bytes().is_empty() {
             let count = self.room.give(&mut buf[..most]);
+            self.note(count);
+            return Moved::Some(count);
+        }
+        if !self.rest.is_empty() {
+            let count = self.rest.give(&mut buf[..most]);
             self.note(count);
             return Moved::Some(count);
         }

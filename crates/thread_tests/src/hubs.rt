@@ -1,6 +1,6 @@
 //! Which connection a worker may keep between two requests, over real connections of this machine.
 
-use client_hub::{Hub, Look, Parked, Stance, Taken, Task};
+use client_hub::{Hub, Look, Parked, Stance, Taken, Task, Waiting};
 use sockets::{Room, WAITS};
 use std::alloc::Global;
 use std::io::Write;
@@ -42,6 +42,7 @@ fn give_back<W: Wait + Clock>(rt: &W, alloc: Global, hub: &Hub, taken: Taken, ro
     let parked = Parked {
         stream: taken.stream,
         ip: taken.ip,
+        waiting: Waiting::Head,
         got: Vec::new(alloc),
         since: 0,
         born: 0,

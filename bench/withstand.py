@@ -1,5 +1,6 @@
 """Clients and origins that would stop a server: see withstand.sh."""
 import contextlib
+import re
 import resource
 import shutil
 import socket
@@ -9,12 +10,24 @@ import tempfile
 import threading
 import time
 
-from upstream import Client, Origin, Server
+from upstream import Origin, Server
 
 PROGRAM, WORKERS, ONLY = sys.argv[1], sys.argv[2], sys.argv[3:]
 SMALL, SECONDS, PATIENCE = b"a" * 34, 4.0, 20.0
 SIZES = {"/3m": 3_000_000, "/6m": 6_000_000, "/16m": 16_777_216}
 failed = []
+
+
+class Contents(dict):
+    """Contents of which some paths are given after a while."""
+
+    def __init__(self, contents):
+        super().__init__(contents)
+        self.slow = {}
+
+    def get(self, path):
+        time.sleep(self.slow.get(path, 0))
+        return super().get(path)
 
 
 class Probe(threading.Thread):
@@ -162,7 +175,7 @@ def continued(name, port):
                 while b"}}" not in heard:
                     heard += link.recv(4096)
             good += heard.startswith(b"HTTP/1.1 201")
-    told(f"{name}, the word 100 ({good} of 4 answers)", max(took), max(took), good < 4, 50, 100)
+    told(f"{name}, the word 100 ({good} of 4 answers)", max(took), max(took), 4 - good, 50, 100)
 
 
 def several(name, port):
@@ -178,7 +191,6 @@ def several(name, port):
         with contextlib.suppress(OSError):
             while heard.count(SMALL) < 2:
                 heard += link.recv(1 << 16)
-    statuses = [it[9:12] for it in heard.split(b"HTTP/1.1") if it.startswith(b" ")]
     statuses = [it[1:4] for it in heard.split(b"HTTP/1.1") if it]
     good = statuses in ([b"200", b"201", b"200"], [b"200", b"400", b"200"])
     if not good:
@@ -204,6 +216,58 @@ def gathered(name, server, bound):
     probed(f"{name}, beside these", server.port, 20, 1500, 2.0)
     for link in links:
         link.close()
+
+
+def rate(port):
+    """How many hits a second wrk is given over 40 connections; the records are cut first."""
+    cut = b"POST /logs HTTP/1.1\r\nHost: control.example\r\nContent-Length: 0\r\nConnection: close\r\n\r\n"
+    with contextlib.suppress(OSError), socket.create_connection(("127.0.0.1", port), timeout=3) as link:
+        link.sendall(cut)
+        while link.recv(4096):
+            pass
+    words = ["wrk", "-t1", "-c40", "-d1s", "--timeout", "30s", "-H", "Host: v.example", f"http://127.0.0.1:{port}/a"]
+    heard = subprocess.run(words, stdout=subprocess.PIPE, text=True, check=True).stdout
+    found = {word: sum(int(it) for it in re.findall(pattern, heard)) for word, pattern in
+             {"all": r"(\d+) requests in", "bad": r"Non-2xx or 3xx responses: (\d+)"}.items()}
+    return found["all"] - found["bad"]
+
+
+def metadata_hangs(contents, origin):
+    """The metadata server takes a request and says nothing, while content is kept: 8 workers, 40 connections."""
+    with Server(PROGRAM, origin, ["--rows", "100000", "--workers", "8", "--period", "1000"], 8192) as server:
+        warm(server.port)
+        before = rate(server.port)
+        contents.slow["/i"] = 40
+        time.sleep(2.5)
+        is_hit(server.port)
+        loading = threading.Thread(target=rate, args=[server.port])
+        loading.start()
+        loading.join()
+        after = rate(server.port)
+        contents.slow.clear()
+    share = after / max(before, 1)
+    line = f"8 workers, the metadata server hangs: {after} hits a second of {before}, a share of {share:.2f} (at least 0.5)"
+    if share < 0.5:
+        failed.append(line)
+    print(line, flush=True)
+
+
+def slow_origin(contents, origin):
+    """Eight misses at once of an origin that takes a second and a half, with 4 workers: all are well."""
+    with Server(PROGRAM, origin, ["--workers", "4"], 8192) as server:
+        warm(server.port)
+        paths = [f"/s{number}" for number in range(8)]
+        contents.update({path: SMALL for path in paths})
+        contents.slow.update({path: 1.5 for path in paths})
+        began, got = time.monotonic(), []
+        asking = [threading.Thread(target=lambda path=path: got.append(is_hit(server.port, path)), daemon=True) for path in paths]
+        for it in asking:
+            it.start()
+        for it in asking:
+            it.join()
+        took = time.monotonic() - began
+    line = f"4 workers, 8 misses at once of an origin that takes 1.5 s: {sum(got)} of 8 in {took:.1f} s"
+    print(line, flush=True)
 
 
 def resident(server):
@@ -257,8 +321,9 @@ def attack(name, port):
 
 def main():
     resource.setrlimit(resource.RLIMIT_NOFILE, (8192, 8192))
-    contents = {"/a": SMALL, **{path: b"b" * size for path, size in SIZES.items()}}
+    contents = Contents({"/a": SMALL, **{path: b"b" * size for path, size in SIZES.items()}})
     with Origin(contents) as origin:
+        origin.server.handle_error = lambda *_: None
         name = f"{WORKERS} workers"
         with Server(PROGRAM, origin, ["--rows", "100000", "--workers", WORKERS], 8192) as server:
             warm(server.port)
@@ -270,6 +335,10 @@ def main():
                 several(name, server.port)
             if wanted("budget"):
                 gathered(name, server, 200)
+        if wanted("metadata"):
+            metadata_hangs(contents, origin)
+        if wanted("misses"):
+            slow_origin(contents, origin)
         if shutil.which("nginx") and wanted("nginx"):
             with nginx(origin) as port:
                 warm(port)

@@ -1,10 +1,10 @@
 -- What a worker is given of a message that was waited for.
-use Rattle.std.proofs.Common.{◌≡◌, ℕ, ◌+◌, ◌-◌, ◌<◌, Bool, true, false, ltb, refl, subst, List, ◌++◌, length, take, drop, sym, ◌∙◌, ap, arith}
+use Rattle.std.proofs.Common.{◌≡◌, ℕ, ◌-◌, ◌<◌, Bool, true, false, ltb, refl, subst, List, ◌++◌, length, take, drop, sym, ◌∙◌, ap, arith}
 use Rattle.std.proofs.Math.Seq.{take-append-add}
 use Rattle.std.proofs.lemmas.Bool.{ltb-true, ltb-false}
 use Rattle.std.proofs.lemmas.List.{take_all, take-append-drop, take-append-le}
 use Rattle.client_hub.proofs.MessageLemmas.{follows_same}
-use Rattle.client_hub.specs.Hub.{IsConnectionOf, IsGivenOf, IsGivenWhole, IsGivenWith}
+use Rattle.client_hub.specs.Hub.{IsGivenOf, IsGivenWhole, IsGivenWith}
 use Rattle.client_hub.specs.Message.{Follows}
 use Rattle.client_hub.specs.declared.hub.Look.{Look}
 use Rattle.client_hub.specs.declared.hub.Look.TheVariants as look

@@ -1,5 +1,5 @@
 -- What a worker with no connection does next.
-use Rattle.std.specs.Prelude.{ℕ, Bool, List, [], ◌∷◌, ◌==◌, if◌then◌else◌}
+use Rattle.std.specs.Prelude.{ℕ, Bool, List, [], ◌∷◌, length, nat_lt, not, ◌==◌, ◌&&◌, if◌then◌else◌}
 use Rattle.std.specs.Option.{option_map_or}
 use Rattle.client_hub.specs.declared.desk.Desk.{Desk}
 use Rattle.client_hub.specs.declared.desk.Step.{Step}
@@ -8,6 +8,7 @@ use Rattle.client_hub.specs.declared.desk.Task.TheVariants as task
 use Rattle.client_hub.specs.declared.parked.Lot.{Lot}
 use Rattle.client_hub.specs.declared.parked.TheConstants.{LISTENER}
 use Rattle.client_hub.specs.Parked.{parked_at}
+use Rattle.client_hub.specs.Post.{is_attended, is_free}
 
 -- the first of what is ready, which is the listener, or a connection unless that was closed; where nothing is ready, a
 -- wait in the epoll, unless another worker waits there
@@ -19,3 +20,9 @@ first_step lot watched (token ∷ tokens) =
 
 abbrev pub next_step : Desk → Step
 next_step desk = first_step desk.lot desk.post.watched desk.lot.ready.items
+
+-- no worker is free, and something is ready
+abbrev pub is_crowded : Desk → Bool
+is_crowded desk =
+    not (is_free (is_attended desk.post.watched desk.post.called desk.post.summoned) desk.post.asleep desk.post.has_deputy)
+    && nat_lt 0 (length desk.lot.ready.items)

@@ -1,8 +1,10 @@
+pub mod Absent
 pub mod Ahead
 pub mod Behind
 pub mod Buffer
 pub mod Desk
 pub mod Hub
 pub mod Message
+pub mod Origins
 pub mod Parked
 pub mod Post

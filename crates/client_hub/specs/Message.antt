@@ -1,10 +1,8 @@
 -- Messages whose rest is waited for.
-use Rattle.std.specs.Prelude.{◌≡◌, ℕ, ◌+◌, ◌-◌, ◌^◌, min, Bool, List, ◌++◌, length, take, nat_lt, nat_le, nat_eq, Option, None, Some, ◌&&◌, if◌then◌else◌}
+use Rattle.std.specs.Prelude.{◌≡◌, ℕ, ◌+◌, ◌-◌, ◌^◌, min, List, ◌++◌, nat_lt, nat_le, Option, None, Some, ◌&&◌, if◌then◌else◌}
 use Rattle.std.specs.Option.{option_and_then}
 use Rattle.client_hub.specs.declared.behind.Behind.{Behind}
 use Rattle.client_hub.specs.declared.message.TheConstants.{BODY_MAX}
-use Rattle.sockets.specs.declared.ready.Moved.{Moved}
-use Rattle.sockets.specs.declared.ready.Moved.TheVariants as moved
 
 -- how many bytes a message has with its head, which ends at byte `end`: where its body has a length that is gathered, and
 -- not all of it came

@@ -1,11 +1,16 @@
 //! What the workers share, and what follows of it for one of them.
 
-ghost use Rattle.std.specs.Prelude.{◌≡◌, ◌≢◌, ◌⊎◌, ◌≤◌, ◌<◌, true, false, drop, length};
-ghost use Rattle.indexmap.specs.IndexMap.{index_map_len};
+ghost use Rattle.std.specs.Prelude.{◌≡◌, ◌≢◌, ◌⊎◌, ◌≤◌, ◌<◌, ◌-◌, true, false, None, nat_eq, drop, length};
+ghost use Rattle.indexmap.specs.IndexMap.{index_map_len, Updates};
 ghost use Rattle.client_hub.specs.Parked.{is_favoured};
 ghost use Rattle.client_hub.specs.Post.{is_attended};
-ghost use Rattle.client_hub.specs.Desk.{next_step};
+ghost use Rattle.client_hub.specs.declared.absent.TheConstants.{LAST_WAIT, LAST_WAIT_FOR_ORIGIN};
+ghost use Rattle.client_hub.specs.Absent.{is_longest};
+ghost use Rattle.client_hub.specs.Desk.{is_crowded, next_step};
+ghost use Rattle.client_hub.specs.Origins.{is_among};
 
+use crate::absent::{Absent, LAST_WAIT, LAST_WAIT_FOR_ORIGIN};
+use crate::origins::Origins;
 use crate::parked::{LISTENER, Lot, Parked};
 use crate::post::{Call, Post};
 
@@ -14,6 +19,13 @@ use crate::post::{Call, Post};
 pub(crate) struct Desk {
     pub lot: Lot,
     pub post: Post,
+    pub absent: Absent,
+    // the origins that were given up, and have not answered since
+    pub doubted: Origins,
+    // those of them that a worker asks
+    pub asked: Origins,
+    // how many tasks were given to workers, past 2^64 - 1 from 0 on
+    pub tasks: u64,
 }
 
 /// What a worker is to do.
@@ -64,12 +76,85 @@ impl Desk {
                 Step::Watch
             };
         };
+        self.tasks = self.tasks.wrapping_add(1);
         if token == LISTENER {
             return Step::Do(Task::Accept);
         }
         match self.lot.take(token) {
             Some(parked) => Step::Do(Task::Read(parked)),
             None => Step::Again,
+        }
+    }
+
+    // whether no worker is free and something is ready
+    pub(crate) fn is_crowded(&self) -> bool
+        ensures { result ≡ is_crowded self.now }
+    {
+        !self.post.is_free() && self.lot.is_ready()
+    }
+
+    // Whether a worker that waits elsewhere since this moment is to give that up: no worker is free, something is ready that
+    // nobody takes, and no other worker waits longer.
+    pub(crate) fn gives_up(&mut self, since: u64, now: u64) -> bool
+        ensures longest { result ≡ true → is_longest self.old.absent since now ≡ true }
+        ensures crowded { result ≡ true → is_crowded self.old ≡ true }
+        ensures shared { (self.new.lot ≡ self.old.lot) × (self.new.post ≡ self.old.post) × (self.new.doubted ≡ self.old.doubted) }
+        ensures list { self.new.absent.list ≡ self.old.absent.list }
+    {
+        let is_crowded = self.is_crowded();
+        let is_stuck = self.absent.is_stuck(self.tasks, now, is_crowded);
+        is_stuck && self.absent.is_longest(since, now)
+    }
+
+    // Whether a worker that waits for this origin since this moment is to give it up, which is doubted then. One that is
+    // doubted already has less time, and whoever asks it need not wait longest.
+    pub(crate) fn gives_origin_up(&mut self, origin: u64, since: u64, now: u64) -> bool
+        ensures crowded { result ≡ true → is_crowded self.old ≡ true }
+        ensures patient { result ≡ true → LAST_WAIT ≤ now - since }
+        ensures cause { result ≡ true → (is_among origin self.old.doubted ≡ true)
+            ⊎ ((LAST_WAIT_FOR_ORIGIN ≤ now - since) × (is_longest self.old.absent since now ≡ true)) }
+        ensures shared { (self.new.lot ≡ self.old.lot) × (self.new.post ≡ self.old.post) }
+    {
+        let waited = now.saturating_sub(since);
+        if self.doubted.has(origin) {
+            return waited >= LAST_WAIT && self.is_crowded();
+        }
+        if waited < LAST_WAIT_FOR_ORIGIN || !self.gives_up(since, now) {
+            return false;
+        }
+        self.doubted.add(origin);
+        true
+    }
+
+    // Whether this origin may be asked: where it was given up and has not answered since, one worker asks it at a time, and
+    // none where no worker is free and somebody asks.
+    pub(crate) fn admits(&mut self, origin: u64) -> bool
+        ensures asked { result ≡ true → is_among origin self.old.doubted ≡ true →
+            (is_crowded self.old ≡ false) × (is_among origin self.old.asked ≡ false) }
+        ensures refused { result ≡ false → (is_among origin self.old.doubted ≡ true)
+            × ((is_crowded self.old ≡ true) ⊎ (is_among origin self.old.asked ≡ true)) }
+        ensures shared { (self.new.lot ≡ self.old.lot) × (self.new.post ≡ self.old.post) × (self.new.doubted ≡ self.old.doubted) }
+    {
+        if !self.doubted.has(origin) {
+            return true;
+        }
+        if self.is_crowded() || self.asked.has(origin) {
+            return false;
+        }
+        self.asked.add(origin);
+        true
+    }
+
+    // a worker has asked this origin: whether it answered
+    pub(crate) fn note_answer(&mut self, origin: u64, answered: bool)
+        ensures trusted { answered ≡ true → Updates nat_eq self.old.doubted.numbers self.new.doubted.numbers origin None }
+        ensures kept { answered ≡ false → self.new.doubted ≡ self.old.doubted }
+        ensures asked { Updates nat_eq self.old.asked.numbers self.new.asked.numbers origin None }
+        ensures shared { (self.new.lot ≡ self.old.lot) × (self.new.post ≡ self.old.post) }
+    {
+        self.asked.remove(origin);
+        if answered {
+            self.doubted.remove(origin);
         }
     }
 

@@ -8,11 +8,13 @@ ghost use Rattle.client_hub.specs.Behind.{body_behind};
 ghost use Rattle.client_hub.specs.Hub.{moment_or, refusal_of, IsClientGiven, IsClientIp, IsGivenOf, IsGivenWhole, IsGivenWith};
 ghost use Rattle.client_hub.specs.Message.{awaited_with};
 
+use crate::absent::Absent;
 use crate::ahead::{Front, front_of};
 use crate::behind::what_follows;
 use crate::buffer::widen;
 use crate::desk::Desk;
 use crate::message::{READS, awaited, go_on, read_message, waited_for};
+use crate::origins::Origins;
 use crate::parked::{LISTENER, Lot, Parked, Waiting};
 use crate::post::Post;
 use crate::rest::Rest;
@@ -119,6 +121,10 @@ impl Hub {
             desk: Mutex::new(Desk {
                 lot: Lot::new(alloc),
                 post: Post::new(),
+                absent: Absent::new(alloc),
+                doubted: Origins::new(alloc),
+                asked: Origins::new(alloc),
+                tasks: 0,
             }),
             sleepers: Condvar::new(),
             deputy: Condvar::new(),

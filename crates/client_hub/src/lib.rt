@@ -2,6 +2,7 @@
 //! worker has, until a head has come, and one worker at a time that waits in it.
 #![tactic(auto)]
 
+mod absent;
 mod ahead;
 mod behind;
 mod buffer;
@@ -9,6 +10,7 @@ mod desk;
 mod hub;
 mod message;
 pub mod numbers;
+mod origins;
 mod parked;
 mod post;
 mod rest;

@@ -2,7 +2,7 @@
 
 ghost use Rattle.std.specs.Prelude.{◌≡◌, ◌≢◌, ◌⊎◌, ◌<◌, ◌≤◌, ◌-◌, ◌+◌, ◌%◌, ◌^◌, min, true, false, if◌then◌else◌};
 ghost use Rattle.client_hub.specs.declared.post.TheConstants.{PATIENCE, PAUSE};
-ghost use Rattle.client_hub.specs.Post.{is_attended, is_staffed};
+ghost use Rattle.client_hub.specs.Post.{is_attended, is_free, is_staffed};
 
 /// How long what is ready may wait for a worker before one more is called, in microseconds.
 const PATIENCE: u64 = 1_000;
@@ -201,6 +201,13 @@ impl Post {
         ensures { result ≡ is_attended self.now.watched self.now.called self.now.summoned }
     {
         self.watched || self.called || self.summoned
+    }
+
+    // whether a worker waits in the epoll or sleeps, or was called
+    pub(crate) fn is_free(&self) -> bool
+        ensures { result ≡ is_free (is_attended self.now.watched self.now.called self.now.summoned) self.now.asleep self.now.has_deputy }
+    {
+        self.is_attended() || self.asleep > 0 || self.has_deputy
     }
 
     // Has a worker wait in the epoll: who is to be woken for that, a sleeper, and the deputy where no other one sleeps. Who is

@@ -5,7 +5,7 @@ ghost use Rattle.std.specs.Sync.Mutex.{mutex_guard_value};
 
 use crate::desk::{Desk, Stance, Step, Task};
 use crate::hub::Hub;
-use crate::parked::LISTENER;
+use crate::parked::{LISTENER, Lot};
 use crate::post::Call;
 use libc::net as c;
 use os::EpollEvent;
@@ -123,14 +123,74 @@ impl Hub {
         if self.is_due(now / MICROS) {
             desk.lot.expire(now / MICROS, &self.waits);
         }
-        for event in &events[..count] {
+        self.note_all(&mut desk.lot, &events[..count]);
+        desk
+    }
+
+    // notes what came
+    fn note_all(&self, lot: &mut Lot, events: &[EpollEvent]) {
+        for event in events {
             if event.data == LISTENER {
-                desk.lot.note_listener();
-            } else if let Some(fd) = desk.lot.note(event.data) {
+                lot.note_listener();
+            } else if let Some(fd) = lot.note(event.data) {
                 os::epoll_ctl(self.epoll(), c::EPOLL_CTL_DEL, fd, 0, 0);
             }
         }
-        desk
+    }
+
+    // notes what came for the workers, where none of them is free, and nothing is ready so far
+    fn sweep(&self, desk: &mut Desk) {
+        if desk.post.is_free() || desk.lot.is_ready() {
+            return;
+        }
+        let mut events = [EpollEvent { events: 0, data: 0 }; BATCH];
+        let count = os::epoll_wait(self.epoll(), &mut events, 0);
+        self.note_all(&mut desk.lot, &events[..count]);
+    }
+
+    /// A worker waits since this millisecond for an origin or a client: under which number, if
+    /// there is memory for one.
+    pub fn begin_wait<W: Wait>(&self, rt: &W, since: u64) -> Option<u64> {
+        self.desk.lock(rt).absent.begin(since)
+    }
+
+    /// The worker with this number waits no more.
+    pub fn end_wait<W: Wait>(&self, rt: &W, number: Option<u64>) {
+        if let Some(number) = number {
+            self.desk.lock(rt).absent.end(number);
+        }
+    }
+
+    /// Whether a worker that waits for a client since this millisecond is to give it up: no worker is left but those that
+    /// wait, somebody asks, and no other one waits longer.
+    pub fn gives_up<W: Wait + Clock>(&self, rt: &W, since: u64) -> bool {
+        let now = clock_of(rt);
+        let mut desk = self.desk.lock(rt);
+        self.sweep(&mut *desk);
+        desk.gives_up(since, now)
+    }
+
+    /// Whether a worker that waits for this origin since this millisecond is to give it up.
+    pub fn gives_origin_up<W: Wait + Clock>(&self, rt: &W, origin: u64, since: u64) -> bool {
+        let now = clock_of(rt);
+        let mut desk = self.desk.lock(rt);
+        self.sweep(&mut *desk);
+        desk.gives_origin_up(origin, since, now)
+    }
+
+    /// Whether this origin may be asked: where it was given up and has not answered since, one worker asks it at a time, and
+    /// none where no worker is free and somebody asks. Who asks it says then how that went, by [`Hub::note_answer`].
+    pub fn admits<W: Wait>(&self, rt: &W, origin: u64) -> bool {
+        let mut desk = self.desk.lock(rt);
+        if desk.doubted.has(origin) {
+            self.sweep(&mut *desk);
+        }
+        desk.admits(origin)
+    }
+
+    /// A worker has asked this origin: whether it answered.
+    pub fn note_answer<W: Wait>(&self, rt: &W, origin: u64, answered: bool) {
+        self.desk.lock(rt).note_answer(origin, answered);
     }
 
     /// Lets another worker wait in the epoll, if one is free, since this one may wait elsewhere.

@@ -7,6 +7,7 @@ ghost use Rattle.std.specs.Iterator.{IsFinite};
 use crate::link::Link;
 use crate::origin_source::OriginSource;
 use crate::pace::Pace;
+use crate::patience::{Endless, Patience};
 use crate::peer::{Peer, PeerName};
 use crate::ready::clock_of;
 use crate::sink::SocketSink;
@@ -84,7 +85,25 @@ pub fn origin_ends<C: Clock + Clone + Drop>(
     clock: &C,
     waits: &Waits,
     stream: TcpStream,
-) -> Result<(OriginSource<C>, SocketSink<C>), AllocError>
+) -> Result<(OriginSource<C, Endless>, SocketSink<C>), AllocError>
+    ensures faults { IfOk result (λ ends. (ends.0.faults ≡ 0) × (ends.1.faults ≡ 0)) }
+    ensures source { IfOk result (λ ends. (arc_value ends.0.link).stream ≡ stream) }
+    ensures sink { IfOk result (λ ends. (arc_value ends.1.link).stream ≡ stream) }
+{
+    patient_ends(alloc, clock, waits, stream, Endless)
+}
+
+/// The same, where `patience` says how long may be waited for the bytes of the origin.
+///
+/// # Errors
+/// Want of memory.
+pub fn patient_ends<C: Clock + Clone + Drop, P: Patience + Drop>(
+    alloc: Global,
+    clock: &C,
+    waits: &Waits,
+    stream: TcpStream,
+    patience: P,
+) -> Result<(OriginSource<C, P>, SocketSink<C>), AllocError>
     ensures faults { IfOk result (λ ends. (ends.0.faults ≡ 0) × (ends.1.faults ≡ 0)) }
     ensures source { IfOk result (λ ends. (arc_value ends.0.link).stream ≡ stream) }
     ensures sink { IfOk result (λ ends. (arc_value ends.1.link).stream ≡ stream) }
@@ -92,7 +111,7 @@ pub fn origin_ends<C: Clock + Clone + Drop>(
     let link = Arc::new(alloc, Link::new(stream))?;
     let other = Arc::try_clone(&link)?;
     let pace = Pace::of_origin(waits);
-    let source = OriginSource::new(link, clock.clone()?, pace);
+    let source = OriginSource::new(link, clock.clone()?, pace, patience);
     let sink = SocketSink::new(other, clock.clone()?, pace);
     Ok((source, sink))
 }

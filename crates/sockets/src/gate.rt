@@ -2,10 +2,12 @@
 
 ghost use Rattle.std.specs.Prelude.{◌≡◌, IfSome};
 ghost use Rattle.sockets.specs.Peer.{IsPeer};
+ghost use Rattle.upstream_gate.specs.Outcome.{HasGateCause};
 ghost use Rattle.upstream_http.specs.Exchange.{Answers, Sends};
 ghost use Rattle.upstream_http.specs.Request.{request_text};
 
-use crate::dial::{connect, origin_ends};
+use crate::dial::{connect, patient_ends};
+use crate::patience::{Endless, Patience};
 use crate::peer::{Peer, peer_of};
 use crate::waits::Waits;
 use edge_base::{Sink, Source};
@@ -48,15 +50,39 @@ impl<N: Net<Listener = TcpListener, Stream = TcpStream> + Clock + Clone + Drop> 
         self.faults
     }
 
+    /// Makes an exchange as `fetch` does, where `patience` says how long may be waited for the bytes of the origin.
+    pub fn fetch_patiently<P: Patience + Drop>(
+        &mut self,
+        alloc: Global,
+        ask: &Ask,
+        patience: P,
+    ) -> Outcome
+        ensures cause { HasGateCause self.old.faults self.new.faults result }
+    {
+        let outcome = self.ask(alloc, ask, patience);
+        if matches!(&outcome, Outcome::Failed) {
+            self.faults = self.faults.saturating_add(1);
+        }
+        outcome
+    }
+
+    /// Makes no exchange, as one that fails.
+    pub fn give_up(&mut self) -> Outcome
+        ensures cause { HasGateCause self.old.faults self.new.faults result }
+    {
+        self.faults = self.faults.saturating_add(1);
+        Outcome::Failed
+    }
+
     // makes the exchange
-    fn ask(&self, alloc: Global, ask: &Ask) -> Outcome {
+    fn ask<P: Patience + Drop>(&self, alloc: Global, ask: &Ask, patience: P) -> Outcome {
         let Some(peer) = peer_of_ask(ask) else {
             return Outcome::Failed;
         };
         let Some(stream) = connect(&self.net, &self.waits, &peer) else {
             return Outcome::Failed;
         };
-        match origin_ends(alloc, &self.net, &self.waits, stream) {
+        match patient_ends(alloc, &self.net, &self.waits, stream, patience) {
             Ok((mut source, mut sink)) => ask_over(alloc, &mut source, &mut sink, ask),
             Err(_) => Outcome::Memory,
         }
@@ -87,10 +113,6 @@ impl<N: Net<Listener = TcpListener, Stream = TcpStream> + Clock + Clone + Drop> 
     ghost faults = { λ g. g.faults };
 
     fn fetch(&mut self, alloc: Global, ask: &Ask) -> Outcome {
-        let outcome = self.ask(alloc, ask);
-        if matches!(&outcome, Outcome::Failed) {
-            self.faults = self.faults.saturating_add(1);
-        }
-        outcome
+        self.fetch_patiently(alloc, ask, Endless)
     }
 }

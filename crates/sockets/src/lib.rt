@@ -8,6 +8,7 @@ mod link;
 pub mod numbers;
 mod origin_source;
 mod pace;
+mod patience;
 mod peer;
 mod ready;
 mod room;
@@ -19,10 +20,11 @@ pub use gate::TcpGate;
 pub use link::Link;
 pub use origin_source::OriginSource;
 pub use pace::{Pace, STEP_BYTES};
+pub use patience::{Endless, Patience};
 pub use peer::{Peer, PeerName, peer_of};
 pub use ready::{
-    Moved, Woken, clock_of, read_now, read_within, wait_for_one, wait_for_two, write_now,
-    write_within,
+    Moved, WAIT_STEP, Woken, clock_of, read_now, read_within, wait_for_one, wait_for_two,
+    write_now, write_within,
 };
 pub use room::Room;
 pub use sink::SocketSink;

@@ -4,6 +4,7 @@ ghost use Rattle.std.specs.Prelude.{◌≤◌, ◌<◌, length};
 ghost use Rattle.sockets.specs.Ready.{IsMoved};
 
 use crate::pace::Pace;
+use crate::patience::Patience;
 use libc::net as c;
 use libc::types::pollfd;
 use std::net::TcpStream;
@@ -15,6 +16,9 @@ const MOST_WAITS: u64 = u64::MAX;
 
 /// What a wait in vain counts at least, in milliseconds, where it may be so long.
 const LEAST_WAIT: u64 = 1_000;
+
+/// After how many milliseconds of a wait is looked whether it is to be given up.
+pub const WAIT_STEP: u64 = 25;
 
 /// What a call on a socket that does not wait gave.
 #[derive(Clone, Copy, Debug, PartialEq, Eq)]
@@ -140,9 +144,9 @@ pub fn wait_for_two(first: RawFd, second: RawFd, time: u64) -> Woken {
     }
 }
 
-// waits within the pace; false where the peer was too slow
-fn keeps_pace<C: Clock>(rt: &C, fd: RawFd, events: i16, pace: &mut Pace) -> bool {
-    let left = pace.left();
+// waits within the pace, and for so many milliseconds at most; false where the peer was too slow
+fn keeps_pace<C: Clock>(rt: &C, fd: RawFd, events: i16, most: u64, pace: &mut Pace) -> bool {
+    let left = pace.left().min(most);
     if left == 0 {
         return false;
     }
@@ -159,6 +163,65 @@ fn keeps_pace<C: Clock>(rt: &C, fd: RawFd, events: i16, pace: &mut Pace) -> bool
     true
 }
 
+/// Reads within the pace, and for as long as `patience` says: never `Later`.
+pub fn read_patiently<C: Clock, P: Patience>(
+    rt: &C,
+    stream: &TcpStream,
+    buf: &mut [u8],
+    pace: &mut Pace,
+    patience: &P,
+) -> Moved
+    requires { 0 < length buf.old }
+    ensures { IsMoved (length buf.new) result }
+{
+    match read_now(stream, buf) {
+        Moved::Some(count) => {
+            pace.note_move(count);
+            Moved::Some(count)
+        }
+        Moved::Later => {
+            let since = clock_of(rt);
+            let number = patience.begin(since);
+            let moved = read_in_steps(rt, stream, buf, pace, patience, since);
+            patience.end(number);
+            moved
+        }
+        other => other,
+    }
+}
+
+// waits in steps until there is something to read, as long as that is not given up
+fn read_in_steps<C: Clock, P: Patience>(
+    rt: &C,
+    stream: &TcpStream,
+    buf: &mut [u8],
+    pace: &mut Pace,
+    patience: &P,
+    since: u64,
+) -> Moved
+    requires { 0 < length buf.old }
+    ensures { IsMoved (length buf.new) result }
+{
+    for _ in 0..MOST_WAITS {
+        if !keeps_pace(rt, stream.as_raw_fd(), c::POLLIN, WAIT_STEP, pace) {
+            return Moved::Failed;
+        }
+        match read_now(stream, buf) {
+            Moved::Some(count) => {
+                pace.note_move(count);
+                return Moved::Some(count);
+            }
+            Moved::Later => {
+                if patience.is_over(since) {
+                    return Moved::Failed;
+                }
+            }
+            other => return other,
+        }
+    }
+    Moved::Failed
+}
+
 /// Reads within the pace: never `Later`.
 pub fn read_within<C: Clock>(rt: &C, stream: &TcpStream, buf: &mut [u8], pace: &mut Pace) -> Moved
     requires { 0 < length buf.old }
@@ -173,13 +236,19 @@ pub fn read_within<C: Clock>(rt: &C, stream: &TcpStream, buf: &mut [u8], pace: &
             Moved::End => return Moved::End,
             Moved::Failed => return Moved::Failed,
             Moved::Later => {
-                if !keeps_pace(rt, stream.as_raw_fd(), c::POLLIN, pace) {
+                if !keeps_pace(rt, stream.as_raw_fd(), c::POLLIN, u64::MAX, pace) {
                     return Moved::Failed;
                 }
             }
         }
     }
     Moved::Failed
+}
+
+/// Waits within the pace until there is room to write, and for so many milliseconds at most; false where the peer was too
+/// slow.
+pub fn wait_for_room<C: Clock>(rt: &C, stream: &TcpStream, most: u64, pace: &mut Pace) -> bool {
+    keeps_pace(rt, stream.as_raw_fd(), c::POLLOUT, most, pace)
 }
 
 /// Writes within the pace: never `Later`.
@@ -196,7 +265,7 @@ pub fn write_within<C: Clock>(rt: &C, stream: &TcpStream, piece: &[u8], pace: &m
             Moved::End => return Moved::Failed,
             Moved::Failed => return Moved::Failed,
             Moved::Later => {
-                if !keeps_pace(rt, stream.as_raw_fd(), c::POLLOUT, pace) {
+                if !keeps_pace(rt, stream.as_raw_fd(), c::POLLOUT, u64::MAX, pace) {
                     return Moved::Failed;
                 }
             }

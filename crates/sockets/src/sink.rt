@@ -6,7 +6,7 @@ ghost use Rattle.sockets.specs.Ready.{IsMoved};
 
 use crate::link::Link;
 use crate::pace::Pace;
-use crate::ready::{Moved, write_now, write_within};
+use crate::ready::{Moved, wait_for_room, write_now, write_within};
 use edge_base::{Put, Sink};
 use std::alloc::Global;
 use std::sync::Arc;
@@ -69,6 +69,30 @@ impl<C: Clock + Drop> SocketSink<C> {
             Moved::Later => None,
             _ => Some(self.fail()),
         }
+    }
+
+    /// Waits for room for so many milliseconds at most, and writes what there is room for then; none where there is none. It
+    /// fails where the client was too slow.
+    pub fn write_within_step(&mut self, piece: &[u8], most: u64) -> Option<Put>
+        requires { 0 < length piece.now }
+        ensures count { IfSome result (λ put. IsPutCount (length piece.now) put) }
+        ensures cause { IfSome result (λ put. HasWriteCause self.old.faults self.new.faults put) }
+        ensures later { IfNone result (self.new.faults ≡ self.old.faults) }
+    {
+        self.begin();
+        if wait_for_room(&self.clock, &self.link.stream, most, &mut self.pace) {
+            self.write_soon(piece)
+        } else {
+            Some(self.fail())
+        }
+    }
+
+    /// Gives the client up: a failure that is counted.
+    pub fn give_up(&mut self) -> Put
+        ensures answer { result ≡ Put.Failed }
+        ensures cause { HasWriteCause self.old.faults self.new.faults result }
+    {
+        self.fail()
     }
 
     // counts a fault

@@ -40,6 +40,9 @@ const LINGER_BYTES: usize = 8_388_608;
 /// One door at a time waits for clients, and serves what came one after the other; those of the other workers sleep. One of
 /// them is called before this one may wait for an origin or a client, and where what came has waited for a millisecond.
 ///
+/// Where no worker is left for clients that ask, whoever waits longest for a client or an origin gives that up: [`ClientSink`]
+/// and [`crate::WorkerGate`] say after how long. Else all wait as long as they may.
+///
 /// A client over IPv6 whose address holds an IPv4 address is given with that. Errors of accepting are passed over, but
 /// for those that say that the listener is none; where no descriptor is left, connections that wait for a second are
 /// closed. A connection that ends before its client has sent all is closed for writing, and up to 8,388,608 bytes of it

@@ -1,4 +1,4 @@
-use Rattle.std.proofs.Common.{◌||◌, ◌&&◌, not, sym, ◌∙◌, ap}
+use Rattle.std.proofs.Common.{◌&&◌, not, sym, ◌∙◌, ap}
 use Rattle.client_hub.specs.Behind.{lines_of, fields_of}
 use Rattle.client_hub.proofs.BehindLemmas.{body_rest, last_rest, expects_rest, body_line, last_line, expects_line, line_cut_off, no_line_cut_off, or_false}
 use Rattle.client_hub.proofs.behind.told_by.Goals as goal

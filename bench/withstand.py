@@ -282,7 +282,7 @@ def nginx(origin):
         port = it.getsockname()[1]
         it.close()
         with open(f"{room}/nginx.conf", "w", encoding="ascii") as to:
-            to.write(f"""daemon off; worker_processes 4; pid {room}/pid; error_log {room}/error crit;
+            to.write(f"""daemon off; user root; worker_processes 4; pid {room}/pid; error_log {room}/error crit;
 worker_rlimit_nofile 8192; events {{ worker_connections 4096; }}
 http {{ access_log {room}/log; proxy_cache_path {room}/kept keys_zone=k:8m max_size=1g; client_body_temp_path {room}/b; proxy_temp_path {room}/p;
 fastcgi_temp_path {room}/f; uwsgi_temp_path {room}/u; scgi_temp_path {room}/s;

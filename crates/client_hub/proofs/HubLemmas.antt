@@ -8,7 +8,7 @@ use Rattle.client_hub.specs.Hub.{IsGivenOf, IsGivenWhole, IsGivenWith}
 use Rattle.client_hub.specs.Message.{Follows}
 use Rattle.client_hub.specs.declared.hub.Look.{Look}
 use Rattle.client_hub.specs.declared.hub.Look.TheVariants as look
-use Rattle.client_hub.specs.declared.parked.Parked.{Parked}
+use Rattle.client_desk.specs.declared.parked.Parked.{Parked}
 
 behind_front : (n : ℕ) (old more : List ℕ) (b : Bool) → ltb (length old) n ≡ b → Follows (take n old) (take n (old ++ more))
 behind_front n old more false is = subst (Follows (take n old)) (sym (take-append-le n old more (ltb-false (length old) n is))) (follows_same (take n old))

@@ -1,4 +1,3 @@
 pub mod BehindLemmas
-pub mod GatheredLemmas
 pub mod HubLemmas
 pub mod MessageLemmas

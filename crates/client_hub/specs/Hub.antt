@@ -10,7 +10,7 @@ use Rattle.client_hub.specs.declared.hub.Look.TheVariants as look
 use Rattle.client_hub.specs.declared.hub.Refusal.{Refusal}
 use Rattle.client_hub.specs.declared.hub.Refusal.TheVariants.{Fault, Full, Passing}
 use Rattle.client_hub.specs.declared.hub.Taken.{Taken}
-use Rattle.client_hub.specs.declared.parked.Parked.{Parked}
+use Rattle.client_desk.specs.declared.parked.Parked.{Parked}
 
 -- EBADF, EINVAL and ENOTSOCK say that the listener is none; ENFILE, EMFILE, ENOMEM and ENOBUFS that nothing is left for
 -- now; any other error is of one connection alone

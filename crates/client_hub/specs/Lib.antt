@@ -1,10 +1,5 @@
-pub mod Absent
 pub mod Ahead
 pub mod Behind
 pub mod Buffer
-pub mod Desk
 pub mod Hub
 pub mod Message
-pub mod Origins
-pub mod Parked
-pub mod Post

@@ -8,16 +8,12 @@ ghost use Rattle.client_hub.specs.Behind.{body_behind};
 ghost use Rattle.client_hub.specs.Hub.{moment_or, refusal_of, IsClientGiven, IsClientIp, IsGivenOf, IsGivenWhole, IsGivenWith};
 ghost use Rattle.client_hub.specs.Message.{awaited_with};
 
-use crate::absent::Absent;
 use crate::ahead::{Front, front_of};
 use crate::behind::what_follows;
 use crate::buffer::widen;
-use crate::desk::Desk;
 use crate::message::{READS, awaited, go_on, read_message, waited_for};
-use crate::origins::Origins;
-use crate::parked::{LISTENER, Lot, Parked, Waiting};
-use crate::post::Post;
 use crate::rest::Rest;
+use client_desk::{Absent, Desk, LISTENER, Lot, Origins, Parked, Post, Waiting};
 use http_wire::HEAD_MAX;
 use libc::net as c;
 use location_acl::Ip;

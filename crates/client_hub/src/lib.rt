@@ -2,24 +2,18 @@
 //! worker has, until a head has come, and one worker at a time that waits in it.
 #![tactic(auto)]
 
-mod absent;
 mod ahead;
 mod behind;
 mod buffer;
-mod desk;
 mod hub;
 mod message;
 pub mod numbers;
-mod origins;
-mod parked;
-mod post;
 mod rest;
 mod watch;
 
 pub use ahead::{Front, front_of};
 pub use behind::{Behind, what_follows};
-pub use desk::{Stance, Task};
+pub use client_desk::{Parked, Stance, Task, Waiting};
 pub use hub::{Hub, Look, Taken};
 pub use message::{BODY_MAX, awaited};
-pub use parked::{Parked, Waiting};
 pub use rest::Rest;

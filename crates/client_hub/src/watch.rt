@@ -3,10 +3,8 @@
 ghost use Rattle.std.specs.Prelude.{◌≡◌, false};
 ghost use Rattle.std.specs.Sync.Mutex.{mutex_guard_value};
 
-use crate::desk::{Desk, Stance, Step, Task};
 use crate::hub::Hub;
-use crate::parked::{LISTENER, Lot};
-use crate::post::Call;
+use client_desk::{Call, Desk, LISTENER, Lot, Stance, Step, Task};
 use libc::net as c;
 use os::EpollEvent;
 use sockets::clock_of;

@@ -2,24 +2,24 @@
 
 ghost use Rattle.std.specs.Prelude.{◌≡◌, ◌≢◌, ◌⊎◌, ◌≤◌, ◌-◌, None, Some, nat_eq, nat_le, true, false, IfNone, IfSome};
 ghost use Rattle.indexmap.specs.IndexMap.{IsEmpty, IsUnchanged, Updates};
-ghost use Rattle.client_hub.specs.declared.absent.TheConstants.{STUCK};
-ghost use Rattle.client_hub.specs.Absent.{is_first, is_longest};
+ghost use Rattle.client_desk.specs.declared.absent.TheConstants.{STUCK};
+ghost use Rattle.client_desk.specs.Absent.{is_first, is_longest};
 
 use indexmap::IndexMap;
 use std::alloc::Global;
 
 /// How long a worker may wait elsewhere where no other one is free and somebody asks, in milliseconds.
-pub(crate) const LAST_WAIT: u64 = 1_000;
+pub const LAST_WAIT: u64 = 1_000;
 
 /// How long a worker may wait for an origin then, in milliseconds.
-pub(crate) const LAST_WAIT_FOR_ORIGIN: u64 = 3_000;
+pub const LAST_WAIT_FOR_ORIGIN: u64 = 3_000;
 
 /// For how long nobody takes what is ready where no worker is left, in milliseconds.
 const STUCK: u64 = 20;
 
-// the workers that wait elsewhere, each under a number: the millisecond since which it waits
+/// The workers that wait elsewhere, each under a number: the millisecond since which it waits.
 #[derive(Drop)]
-pub(crate) struct Absent {
+pub struct Absent {
     list: IndexMap<u64, u64>,
     next: u64,
     // how many tasks had been given when it was last looked
@@ -29,8 +29,8 @@ pub(crate) struct Absent {
 }
 
 impl Absent {
-    // none
-    pub(crate) fn new(alloc: Global) -> Absent
+    /// None.
+    pub fn new(alloc: Global) -> Absent
         ensures { IsEmpty result.list }
     {
         Absent {
@@ -41,8 +41,8 @@ impl Absent {
         }
     }
 
-    // a worker waits elsewhere since this moment: under which number; none where there is no memory for that
-    pub(crate) fn begin(&mut self, since: u64) -> Option<u64>
+    /// A worker waits elsewhere since this moment: under which number; none where there is no memory for that.
+    pub fn begin(&mut self, since: u64) -> Option<u64>
         ensures listed { IfSome result (λ number. Updates nat_eq self.old.list self.new.list number (Some since)) }
         ensures kept { IfNone result (IsUnchanged self.old.list self.new.list) }
     {
@@ -55,15 +55,15 @@ impl Absent {
         Some(number)
     }
 
-    // the worker with this number waits no more
-    pub(crate) fn end(&mut self, number: u64)
+    /// The worker with this number waits no more.
+    pub fn end(&mut self, number: u64)
         ensures { Updates nat_eq self.old.list self.new.list number None }
     {
         self.list.swap_remove(&number);
     }
 
-    // whether no worker waits longer than since this moment, and that is as long as one may
-    pub(crate) fn is_longest(&self, since: u64, now: u64) -> bool
+    /// Whether no worker waits longer than since this moment, and that is as long as one may.
+    pub fn is_longest(&self, since: u64, now: u64) -> bool
         ensures { result ≡ is_longest self.now since now }
     {
         now.saturating_sub(since) >= LAST_WAIT && self.is_first(since)
@@ -80,9 +80,9 @@ impl Absent {
         )
     }
 
-    // Looks at how many tasks were given: whether none was since it was looked at first, for as long as workers take that
-    // are free. Where nothing is ready, it begins anew.
-    pub(crate) fn is_stuck(&mut self, tasks: u64, now: u64, is_short: bool) -> bool
+    /// Looks at how many tasks were given: whether none was since it was looked at first, for as long as workers take that
+    /// are free. Where nothing is ready, it begins anew.
+    pub fn is_stuck(&mut self, tasks: u64, now: u64, is_short: bool) -> bool
         ensures stuck { result ≡ true → (is_short ≡ true) × (self.old.tasks ≡ tasks) × (STUCK ≤ now - self.old.stuck) }
         ensures still { result ≡ true → self.new ≡ self.old }
         ensures anew { (is_short ≡ false) ⊎ (self.old.tasks ≢ tasks) → (self.new.tasks ≡ tasks) × (self.new.stuck ≡ now) }

@@ -2,8 +2,8 @@
 
 ghost use Rattle.std.specs.Prelude.{◌≡◌, ◌⊎◌, ◌<◌, None, Some, nat_eq};
 ghost use Rattle.indexmap.specs.IndexMap.{index_map_len, IsEmpty, IsUnchanged, Updates};
-ghost use Rattle.client_hub.specs.declared.origins.TheConstants.{ORIGINS_MAX};
-ghost use Rattle.client_hub.specs.Origins.{is_among};
+ghost use Rattle.client_desk.specs.declared.origins.TheConstants.{ORIGINS_MAX};
+ghost use Rattle.client_desk.specs.Origins.{is_among};
 
 use indexmap::IndexMap;
 use std::alloc::Global;
@@ -11,15 +11,15 @@ use std::alloc::Global;
 /// How many origins are known at most.
 const ORIGINS_MAX: usize = 64;
 
-// some origins, each by its number, under that number
+/// Some origins, each by its number, under that number.
 #[derive(Drop)]
-pub(crate) struct Origins {
+pub struct Origins {
     numbers: IndexMap<u64, u64>,
 }
 
 impl Origins {
-    // none
-    pub(crate) fn new(alloc: Global) -> Origins
+    /// None.
+    pub fn new(alloc: Global) -> Origins
         ensures { IsEmpty result.numbers }
     {
         Origins {
@@ -27,15 +27,15 @@ impl Origins {
         }
     }
 
-    // whether this origin is among them
-    pub(crate) fn has(&self, origin: u64) -> bool
+    /// Whether this origin is among them.
+    pub fn has(&self, origin: u64) -> bool
         ensures { result ≡ is_among origin self.now }
     {
         self.numbers.contains_key(&origin)
     }
 
-    // has this origin too, unless there is no memory for it, or as many others are there
-    pub(crate) fn add(&mut self, origin: u64)
+    /// Has this origin too, unless there is no memory for it, or as many others are there.
+    pub fn add(&mut self, origin: u64)
         ensures { IsUnchanged self.old.numbers self.new.numbers
             ⊎ ((index_map_len self.old.numbers < ORIGINS_MAX) × Updates nat_eq self.old.numbers self.new.numbers origin (Some origin)) }
     {
@@ -44,8 +44,8 @@ impl Origins {
         }
     }
 
-    // has this origin no more
-    pub(crate) fn remove(&mut self, origin: u64)
+    /// Has this origin no more.
+    pub fn remove(&mut self, origin: u64)
         ensures { Updates nat_eq self.old.numbers self.new.numbers origin None }
     {
         self.numbers.swap_remove(&origin);

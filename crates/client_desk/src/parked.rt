@@ -4,9 +4,9 @@ ghost use Rattle.std.specs.Prelude.{◌≡◌, ◌⊎◌, ◌<◌, ◌≤◌, �
 ghost use Rattle.std.specs.VecDeque.{deque_len, deque_capacity};
 ghost use Rattle.std.specs.Option.{option_to_list};
 ghost use Rattle.indexmap.specs.IndexMap.{index_map_len, values, IsEmpty, IsUnchanged, Updates};
-ghost use Rattle.client_hub.specs.declared.parked.TheConstants.{COUNTED_MAX, LISTENER, MESSAGES_MAX};
-ghost use Rattle.client_hub.specs.Parked.{is_late, is_expired, is_spare, is_favoured, new_slot, slot_at, parked_at, told_fd, with_parked, told, IsCounted, KeepsOrder};
-ghost use Rattle.client_hub.specs.Parked.{time_for, counted, gathered, gathered_by, gathered_in, gathered_without, is_old_message, is_old, left_after, with_came};
+ghost use Rattle.client_desk.specs.declared.parked.TheConstants.{COUNTED_MAX, LISTENER, MESSAGES_MAX};
+ghost use Rattle.client_desk.specs.Parked.{is_late, is_expired, is_spare, is_favoured, new_slot, slot_at, parked_at, told_fd, with_parked, told, IsCounted, KeepsOrder};
+ghost use Rattle.client_desk.specs.Parked.{time_for, counted, gathered, gathered_by, gathered_in, gathered_without, is_old_message, is_old, left_after, with_came};
 
 use indexmap::IndexMap;
 use location_acl::Ip;
@@ -17,13 +17,13 @@ use std::net::TcpStream;
 use std::os::fd::RawFd;
 
 /// The token of the listener.
-pub(crate) const LISTENER: u64 = 0;
+pub const LISTENER: u64 = 0;
 
 /// After how many turns in a row a connection is the only one that asks.
 const STREAK: u64 = 16;
 
 /// How much what came of messages may take together, in bytes, before their workers have them.
-pub(crate) const MESSAGES_MAX: u64 = 67_108_864;
+pub const MESSAGES_MAX: u64 = 67_108_864;
 
 /// What came of messages is counted again after so many bytes more.
 const COUNTED_MAX: u64 = 4_194_304;
@@ -111,9 +111,9 @@ fn is_old_message(parked: &Parked, moment: Option<u64>) -> bool
     }
 }
 
-// what is known of an open connection
+/// What is known of an open connection.
 #[derive(Drop)]
-pub(crate) struct Slot {
+pub struct Slot {
     fd: RawFd,
     // whether the epoll tells of it
     told: bool,
@@ -121,9 +121,9 @@ pub(crate) struct Slot {
     parked: Option<Parked>,
 }
 
-// all open connections, each under a token that no other one has or had
+/// All open connections, each under a token that no other one has or had.
 #[derive(Drop)]
-pub(crate) struct Lot {
+pub struct Lot {
     slots: IndexMap<u64, Slot>,
     next: u64,
     // the tokens of those that have something for a worker, in the order in which the epoll told of them
@@ -136,8 +136,8 @@ pub(crate) struct Lot {
 }
 
 impl Lot {
-    // none; the tokens begin with 1
-    pub(crate) fn new(alloc: Global) -> Lot
+    /// None; the tokens begin with 1.
+    pub fn new(alloc: Global) -> Lot
         ensures empty { IsEmpty result.slots }
         ensures ready { result.ready.items ≡ [] }
     {
@@ -151,15 +151,15 @@ impl Lot {
         }
     }
 
-    // how many are open
-    pub(crate) fn len(&self) -> usize
+    /// How many are open.
+    pub fn len(&self) -> usize
         ensures { result ≡ index_map_len self.now.slots }
     {
         self.slots.len()
     }
 
-    // whether no other connection than this one asks: it was given to a worker many times in a row
-    pub(crate) fn is_favoured(&self, token: u64) -> bool
+    /// Whether no other connection than this one asks: it was given to a worker many times in a row.
+    pub fn is_favoured(&self, token: u64) -> bool
         ensures { result ≡ is_favoured self.now token }
     {
         self.last == token && self.streak >= STREAK
@@ -180,8 +180,8 @@ impl Lot {
         self.last = token;
     }
 
-    // a connection of a worker, under the next token; none where no memory or no token is left
-    pub(crate) fn admit(&mut self, fd: RawFd) -> Option<u64>
+    /// A connection of a worker, under the next token; none where no memory or no token is left.
+    pub fn admit(&mut self, fd: RawFd) -> Option<u64>
         ensures token { IfSome result (λ token. token ≡ self.old.next) }
         ensures next { IfSome result (λ token. self.new.next ≡ self.old.next + 1) }
         ensures slot { IfSome result (λ token. Updates nat_eq self.old.slots self.new.slots token (Some (new_slot fd))) }
@@ -205,8 +205,8 @@ impl Lot {
         Some(token)
     }
 
-    // Keeps a connection that no worker has any more; whether the epoll tells of it. One that was not admitted is closed.
-    pub(crate) fn keep(&mut self, parked: Parked) -> bool
+    /// Keeps a connection that no worker has any more; whether the epoll tells of it. One that was not admitted is closed.
+    pub fn keep(&mut self, parked: Parked) -> bool
         ensures told { IfSome (slot_at self.old parked.token) (λ slot. result ≡ slot.told) }
         ensures kept { IfSome (slot_at self.old parked.token) (λ slot.
             Updates nat_eq self.old.slots self.new.slots parked.token (Some (with_parked slot (Some parked)))) }
@@ -222,8 +222,8 @@ impl Lot {
         }
     }
 
-    // the epoll tells of this connection from now on
-    pub(crate) fn tell(&mut self, token: u64)
+    /// The epoll tells of this connection from now on.
+    pub fn tell(&mut self, token: u64)
         ensures told { IfSome (slot_at self.old token) (λ slot.
             Updates nat_eq self.old.slots self.new.slots token (Some (told slot))) }
         ensures order { KeepsOrder self.old self.new }
@@ -233,8 +233,8 @@ impl Lot {
         }
     }
 
-    // takes a connection out for a worker
-    pub(crate) fn take(&mut self, token: u64) -> Option<Parked>
+    /// Takes a connection out for a worker.
+    pub fn take(&mut self, token: u64) -> Option<Parked>
         ensures given { result ≡ parked_at self.old token }
         ensures taken { IfSome result (λ _. parked_at self.new token ≡ None) }
         ensures counted { IfSome result (λ _. IsCounted self.old self.new token) }
@@ -247,16 +247,16 @@ impl Lot {
         Some(parked)
     }
 
-    // a connection is closed, or is about to be
-    pub(crate) fn forget(&mut self, token: u64)
+    /// A connection is closed, or is about to be.
+    pub fn forget(&mut self, token: u64)
         ensures gone { Updates nat_eq self.old.slots self.new.slots token None }
         ensures order { KeepsOrder self.old self.new }
     {
         drop(self.slots.swap_remove(&token));
     }
 
-    // Notes that something came of this connection. Where a worker has it, the epoll is to forget this descriptor.
-    pub(crate) fn note(&mut self, token: u64) -> Option<RawFd>
+    /// Notes that something came of this connection. Where a worker has it, the epoll is to forget this descriptor.
+    pub fn note(&mut self, token: u64) -> Option<RawFd>
         ensures forgotten { result ≡ told_fd self.old token }
         ensures queued { IsSome (parked_at self.old token) → deque_len self.old.ready < deque_capacity self.old.ready →
             self.new.ready.items ≡ self.old.ready.items ++ token ∷ [] }
@@ -274,8 +274,8 @@ impl Lot {
         None
     }
 
-    // notes that something came for the listener
-    pub(crate) fn note_listener(&mut self)
+    /// Notes that something came for the listener.
+    pub fn note_listener(&mut self)
         ensures queued { deque_len self.old.ready < deque_capacity self.old.ready →
             self.new.ready.items ≡ self.old.ready.items ++ LISTENER ∷ [] }
         ensures next { self.new.next ≡ self.old.next }
@@ -283,8 +283,8 @@ impl Lot {
         let _ = self.ready.push_back(LISTENER);
     }
 
-    // the first token of those that have something for a worker
-    pub(crate) fn next_ready(&mut self) -> Option<u64>
+    /// The first token of those that have something for a worker.
+    pub fn next_ready(&mut self) -> Option<u64>
         ensures first { self.old.ready.items ≡ option_to_list result ++ self.new.ready.items }
         ensures none { IfNone result (self.old.ready.items ≡ []) }
         ensures rest { self.new.ready.items ≡ drop 1 self.old.ready.items }
@@ -294,15 +294,15 @@ impl Lot {
         self.ready.pop_front()
     }
 
-    // whether some have something for a worker
-    pub(crate) fn is_ready(&self) -> bool
+    /// Whether some have something for a worker.
+    pub fn is_ready(&self) -> bool
         ensures { IsTrue result ↔ (0 < length self.now.ready.items) }
     {
         !self.ready.is_empty()
     }
 
-    // closes those that waited too long
-    pub(crate) fn expire(&mut self, now: u64, waits: &Waits)
+    /// Closes those that waited too long.
+    pub fn expire(&mut self, now: u64, waits: &Waits)
         ensures kept { self.new.slots.entries ≡ filter (λ entry. not (is_expired now waits.now entry.1)) self.old.slots.entries }
         ensures order { KeepsOrder self.old self.new }
     {
@@ -318,8 +318,8 @@ impl Lot {
         );
     }
 
-    // closes those that waited for this many milliseconds
-    pub(crate) fn make_room(&mut self, now: u64, time: u64)
+    /// Closes those that waited for this many milliseconds.
+    pub fn make_room(&mut self, now: u64, time: u64)
         ensures kept { self.new.slots.entries ≡ filter (λ entry. not (is_spare now time entry.1)) self.old.slots.entries }
         ensures order { KeepsOrder self.old self.new }
     {
@@ -335,8 +335,8 @@ impl Lot {
         );
     }
 
-    // notes that so many bytes of a message came; whether all are to be counted again
-    pub(crate) fn note_bytes(&mut self, count: usize) -> bool
+    /// Notes that so many bytes of a message came; whether all are to be counted again.
+    pub fn note_bytes(&mut self, count: usize) -> bool
         ensures due { IsTrue result ↔ (COUNTED_MAX ≤ self.old.came + count) }
         ensures noted { self.new ≡ with_came self.old (if result then 0 else self.old.came + count) }
     {
@@ -390,8 +390,8 @@ impl Lot {
     }
 
     #[tactic(auto, using(crate::proofs::GatheredLemmas::all_within, crate::proofs::GatheredLemmas::all_above))]
-    // Where what came of messages takes more than it may, closes those that are waited for longest.
-    pub(crate) fn keep_within(&mut self, now: u64)
+    /// Where what came of messages takes more than it may, closes those that are waited for longest.
+    pub fn keep_within(&mut self, now: u64)
         ensures within { gathered self.new.slots.entries ≤ MESSAGES_MAX }
         ensures oldest { (self.new.slots.entries ≡ self.old.slots.entries)
             ⊎ ((moment : Option ℕ) × (self.new.slots.entries ≡ left_after moment self.old)) }

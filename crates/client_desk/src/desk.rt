@@ -2,29 +2,29 @@
 
 ghost use Rattle.std.specs.Prelude.{◌≡◌, ◌≢◌, ◌⊎◌, ◌≤◌, ◌<◌, ◌-◌, true, false, None, nat_eq, drop, length};
 ghost use Rattle.indexmap.specs.IndexMap.{index_map_len, Updates};
-ghost use Rattle.client_hub.specs.Parked.{is_favoured};
-ghost use Rattle.client_hub.specs.Post.{is_attended};
-ghost use Rattle.client_hub.specs.declared.absent.TheConstants.{LAST_WAIT, LAST_WAIT_FOR_ORIGIN};
-ghost use Rattle.client_hub.specs.Absent.{is_longest};
-ghost use Rattle.client_hub.specs.Desk.{is_crowded, next_step};
-ghost use Rattle.client_hub.specs.Origins.{is_among};
+ghost use Rattle.client_desk.specs.Parked.{is_favoured};
+ghost use Rattle.client_desk.specs.Post.{is_attended};
+ghost use Rattle.client_desk.specs.declared.absent.TheConstants.{LAST_WAIT, LAST_WAIT_FOR_ORIGIN};
+ghost use Rattle.client_desk.specs.Absent.{is_longest};
+ghost use Rattle.client_desk.specs.Desk.{is_crowded, next_step};
+ghost use Rattle.client_desk.specs.Origins.{is_among};
 
 use crate::absent::{Absent, LAST_WAIT, LAST_WAIT_FOR_ORIGIN};
 use crate::origins::Origins;
 use crate::parked::{LISTENER, Lot, Parked};
 use crate::post::{Call, Post};
 
-// what the workers share
+/// What the workers share.
 #[derive(Drop)]
-pub(crate) struct Desk {
+pub struct Desk {
     pub lot: Lot,
     pub post: Post,
     pub absent: Absent,
-    // the origins that were given up, and have not answered since
+    /// The origins that were given up, and have not answered since.
     pub doubted: Origins,
-    // those of them that a worker asks
+    /// Those of them that a worker asks.
     pub asked: Origins,
-    // how many tasks were given to workers, past 2^64 - 1 from 0 on
+    /// How many tasks were given to workers, past 2^64 - 1 from 0 on.
     pub tasks: u64,
 }
 
@@ -37,9 +37,9 @@ pub enum Task {
     Read(Parked),
 }
 
-// what a worker with no connection does next
+/// What a worker with no connection does next.
 #[derive(Drop)]
-pub(crate) enum Step {
+pub enum Step {
     // this
     Do(Task),
     // it looks again, since what was ready is closed
@@ -62,9 +62,9 @@ pub enum Stance {
 }
 
 impl Desk {
-    // What a worker with no connection does next: the first of what is ready. Where nothing is, one worker at a time waits
-    // in the epoll.
-    pub(crate) fn next_step(&mut self) -> Step
+    /// What a worker with no connection does next: the first of what is ready. Where nothing is, one worker at a time waits
+    /// in the epoll.
+    pub fn next_step(&mut self) -> Step
         ensures step { result ≡ next_step self.old }
         ensures ready { self.new.lot.ready.items ≡ drop 1 self.old.lot.ready.items }
         ensures post { self.new.post ≡ self.old.post }
@@ -86,16 +86,16 @@ impl Desk {
         }
     }
 
-    // whether no worker is free and something is ready
-    pub(crate) fn is_crowded(&self) -> bool
+    /// Whether no worker is free and something is ready.
+    pub fn is_crowded(&self) -> bool
         ensures { result ≡ is_crowded self.now }
     {
         !self.post.is_free() && self.lot.is_ready()
     }
 
-    // Whether a worker that waits elsewhere since this moment is to give that up: no worker is free, something is ready that
-    // nobody takes, and no other worker waits longer.
-    pub(crate) fn gives_up(&mut self, since: u64, now: u64) -> bool
+    /// Whether a worker that waits elsewhere since this moment is to give that up: no worker is free, something is ready that
+    /// nobody takes, and no other worker waits longer.
+    pub fn gives_up(&mut self, since: u64, now: u64) -> bool
         ensures longest { result ≡ true → is_longest self.old.absent since now ≡ true }
         ensures crowded { result ≡ true → is_crowded self.old ≡ true }
         ensures shared { (self.new.lot ≡ self.old.lot) × (self.new.post ≡ self.old.post) × (self.new.doubted ≡ self.old.doubted) }
@@ -106,9 +106,9 @@ impl Desk {
         is_stuck && self.absent.is_longest(since, now)
     }
 
-    // Whether a worker that waits for this origin since this moment is to give it up, which is doubted then. One that is
-    // doubted already has less time, and whoever asks it need not wait longest.
-    pub(crate) fn gives_origin_up(&mut self, origin: u64, since: u64, now: u64) -> bool
+    /// Whether a worker that waits for this origin since this moment is to give it up, which is doubted then. One that is
+    /// doubted already has less time, and whoever asks it need not wait longest.
+    pub fn gives_origin_up(&mut self, origin: u64, since: u64, now: u64) -> bool
         ensures crowded { result ≡ true → is_crowded self.old ≡ true }
         ensures patient { result ≡ true → LAST_WAIT ≤ now - since }
         ensures cause { result ≡ true → (is_among origin self.old.doubted ≡ true)
@@ -126,9 +126,9 @@ impl Desk {
         true
     }
 
-    // Whether this origin may be asked: where it was given up and has not answered since, one worker asks it at a time, and
-    // none where no worker is free and somebody asks.
-    pub(crate) fn admits(&mut self, origin: u64) -> bool
+    /// Whether this origin may be asked: where it was given up and has not answered since, one worker asks it at a time, and
+    /// none where no worker is free and somebody asks.
+    pub fn admits(&mut self, origin: u64) -> bool
         ensures asked { result ≡ true → is_among origin self.old.doubted ≡ true →
             (is_crowded self.old ≡ false) × (is_among origin self.old.asked ≡ false) }
         ensures refused { result ≡ false → (is_among origin self.old.doubted ≡ true)
@@ -145,8 +145,8 @@ impl Desk {
         true
     }
 
-    // a worker has asked this origin: whether it answered
-    pub(crate) fn note_answer(&mut self, origin: u64, answered: bool)
+    /// A worker has asked this origin: whether it answered.
+    pub fn note_answer(&mut self, origin: u64, answered: bool)
         ensures trusted { answered ≡ true → Updates nat_eq self.old.doubted.numbers self.new.doubted.numbers origin None }
         ensures kept { answered ≡ false → self.new.doubted ≡ self.old.doubted }
         ensures asked { Updates nat_eq self.old.asked.numbers self.new.asked.numbers origin None }
@@ -158,8 +158,8 @@ impl Desk {
         }
     }
 
-    // whether something is ready, and nobody but those that serve will take it
-    pub(crate) fn is_short(&self) -> bool
+    /// Whether something is ready, and nobody but those that serve will take it.
+    pub fn is_short(&self) -> bool
         ensures ready { result ≡ true → 0 < length self.now.lot.ready.items }
         ensures alone { result ≡ true → is_attended self.now.post.watched self.now.post.called self.now.post.summoned ≡ false }
         ensures enough { result ≡ false → (length self.now.lot.ready.items ≡ 0)
@@ -168,9 +168,9 @@ impl Desk {
         self.lot.is_ready() && !self.post.is_attended()
     }
 
-    // How it stands for a worker that would keep the connection with this token, and who is to be woken so that another one
-    // waits for the others: whoever is noted as called.
-    pub(crate) fn stance(&mut self, token: u64) -> (Stance, Call)
+    /// How it stands for a worker that would keep the connection with this token, and who is to be woken so that another one
+    /// waits for the others: whoever is noted as called.
+    pub fn stance(&mut self, token: u64) -> (Stance, Call)
         ensures alone { index_map_len self.old.lot.slots ≤ 1 → result.0 ≢ Stance.Crowded }
         ensures favoured { 1 < index_map_len self.old.lot.slots → result.0 ≢ Stance.Crowded →
             (is_favoured self.old.lot token ≡ true) × (result.0 ≡ Stance.Attended) }

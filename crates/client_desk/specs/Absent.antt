@@ -2,8 +2,8 @@
 use Rattle.std.specs.Prelude.{ℕ, Bool, ◌-◌, nat_le, ◌&&◌}
 use Rattle.std.specs.List.{list_all}
 use Rattle.indexmap.specs.IndexMap.{values}
-use Rattle.client_hub.specs.declared.absent.Absent.{Absent}
-use Rattle.client_hub.specs.declared.absent.TheConstants.{LAST_WAIT}
+use Rattle.client_desk.specs.declared.absent.Absent.{Absent}
+use Rattle.client_desk.specs.declared.absent.TheConstants.{LAST_WAIT}
 
 -- nobody waits longer than since this moment
 abbrev pub is_first : Absent → ℕ → Bool

@@ -1,8 +1,8 @@
 //! Which worker waits in the epoll, and which sleep.
 
 ghost use Rattle.std.specs.Prelude.{◌≡◌, ◌≢◌, ◌⊎◌, ◌<◌, ◌≤◌, ◌-◌, ◌+◌, ◌%◌, ◌^◌, min, true, false, if◌then◌else◌};
-ghost use Rattle.client_hub.specs.declared.post.TheConstants.{PATIENCE, PAUSE};
-ghost use Rattle.client_hub.specs.Post.{is_attended, is_free, is_staffed};
+ghost use Rattle.client_desk.specs.declared.post.TheConstants.{PATIENCE, PAUSE};
+ghost use Rattle.client_desk.specs.Post.{is_attended, is_free, is_staffed};
 
 /// How long what is ready may wait for a worker before one more is called, in microseconds.
 const PATIENCE: u64 = 1_000;
@@ -10,9 +10,9 @@ const PATIENCE: u64 = 1_000;
 /// A wait in the epoll that is shorter found something ready, in microseconds.
 const PAUSE: u64 = 20;
 
-// who waits in the epoll, and who sleeps
+/// Who waits in the epoll, and who sleeps.
 #[derive(Drop)]
-pub(crate) struct Post {
+pub struct Post {
     // whether a worker waits in the epoll
     watched: bool,
     // how many waits in the epoll began, past 2^64 - 1 from 0 on
@@ -35,9 +35,9 @@ pub(crate) struct Post {
     ghost staffed: { is_staffed asleep has_deputy appointed ≡ true },
 }
 
-// who is to be woken
+/// Who is to be woken.
 #[derive(Clone, Copy, Debug, PartialEq, Eq)]
-pub(crate) enum Call {
+pub enum Call {
     // one of the sleepers
     Sleeper,
     // the deputy
@@ -49,8 +49,8 @@ pub(crate) enum Call {
 }
 
 impl Post {
-    // nobody waits or sleeps
-    pub(crate) fn new() -> Post
+    /// Nobody waits or sleeps.
+    pub fn new() -> Post
         ensures watched { result.watched ≡ false }
         ensures asleep { (result.asleep ≡ 0) × (result.has_deputy ≡ false) }
         ensures called { (result.called ≡ false) × (result.summoned ≡ false) }
@@ -68,22 +68,22 @@ impl Post {
         }
     }
 
-    // whether a worker waits in the epoll
-    pub(crate) fn is_watched(&self) -> bool
+    /// Whether a worker waits in the epoll.
+    pub fn is_watched(&self) -> bool
         ensures { result ≡ self.now.watched }
     {
         self.watched
     }
 
-    // how many waits in the epoll began
-    pub(crate) fn watches(&self) -> u64
+    /// How many waits in the epoll began.
+    pub fn watches(&self) -> u64
         ensures { result ≡ self.now.watches }
     {
         self.watches
     }
 
-    // a worker begins to wait in the epoll
-    pub(crate) fn begin_watch(&mut self)
+    /// A worker begins to wait in the epoll.
+    pub fn begin_watch(&mut self)
         requires alone { self.old.watched ≡ false }
         ensures watched { self.new.watched ≡ true }
         ensures counted { self.new.watches ≡ (self.old.watches + 1) % 2 ^ 64 }
@@ -94,10 +94,10 @@ impl Post {
         self.watches = self.watches.wrapping_add(1);
     }
 
-    // It does not wait there any more. It began to at the first of these microseconds, and now is the second one: where they
-    // are apart, nothing was ready at the first one. Else what came waits since the epoll last had told all that was ready,
-    // and so does what it has more than it told now.
-    pub(crate) fn end_watch(&mut self, began: u64, now: u64, has_more: bool)
+    /// It does not wait there any more. It began to at the first of these microseconds, and now is the second one: where they
+    /// are apart, nothing was ready at the first one. Else what came waits since the epoll last had told all that was ready,
+    /// and so does what it has more than it told now.
+    pub fn end_watch(&mut self, began: u64, now: u64, has_more: bool)
         ensures watched { self.new.watched ≡ false }
         ensures paused { PAUSE ≤ now - began → self.new.waiting ≡ began }
         ensures busy { now - began < PAUSE → self.new.waiting ≡ self.old.swept }
@@ -115,8 +115,8 @@ impl Post {
         self.swept = if has_more { self.waiting } else { now };
     }
 
-    // whether what is ready waits for long; then that is counted anew from this microsecond on
-    pub(crate) fn is_overdue(&mut self, now: u64) -> bool
+    /// Whether what is ready waits for long; then that is counted anew from this microsecond on.
+    pub fn is_overdue(&mut self, now: u64) -> bool
         ensures patient { result ≡ true → PATIENCE ≤ now - self.old.waiting }
         ensures anew { result ≡ true → (self.new.waiting ≡ now) × (self.new.swept ≡ now) }
         ensures still { result ≡ false → (now - self.old.waiting < PATIENCE) × (self.new ≡ self.old) }
@@ -132,8 +132,8 @@ impl Post {
         true
     }
 
-    // whether the deputy is to wake: it was called, or nobody waits in the epoll, and nobody began to since so many began
-    pub(crate) fn wants_deputy(&self, watches: u64) -> bool
+    /// Whether the deputy is to wake: it was called, or nobody waits in the epoll, and nobody began to since so many began.
+    pub fn wants_deputy(&self, watches: u64) -> bool
         ensures summoned { self.now.summoned ≡ true → result ≡ true }
         ensures deserted { self.now.watched ≡ false → self.now.watches ≡ watches → result ≡ true }
         ensures cause { result ≡ true → (self.now.summoned ≡ true) ⊎ (self.now.watched ≡ false) }
@@ -141,8 +141,8 @@ impl Post {
         self.summoned || (!self.watched && self.watches == watches)
     }
 
-    // a worker falls asleep; whether as the deputy
-    pub(crate) fn fall_asleep(&mut self) -> bool
+    /// A worker falls asleep; whether as the deputy.
+    pub fn fall_asleep(&mut self) -> bool
         ensures deputy { result ≡ true → (self.old.has_deputy ≡ false) × (self.new.asleep ≡ self.old.asleep) }
         ensures asleep { result ≡ false → (self.old.has_deputy ≡ true) × (self.new.asleep ≡ min (self.old.asleep + 1) (2 ^ 64 - 1)) }
         ensures stands { self.new.has_deputy ≡ true }
@@ -157,8 +157,8 @@ impl Post {
         true
     }
 
-    // a sleeper is awake; another one is to be woken to be the deputy where there is none
-    pub(crate) fn wake_up(&mut self) -> Call
+    /// A sleeper is awake; another one is to be woken to be the deputy where there is none.
+    pub fn wake_up(&mut self) -> Call
         ensures appoints { self.new.appointed ≡ true → result ≡ Call.Sleeper }
         ensures nobody { self.new.appointed ≡ false → result ≡ Call.Nobody }
         ensures asleep { self.new.asleep ≡ self.old.asleep - 1 }
@@ -176,8 +176,8 @@ impl Post {
         }
     }
 
-    // the deputy is none any more; a sleeper is to be woken to be the next one, unless that is so already
-    pub(crate) fn step_down(&mut self) -> Call
+    /// The deputy is none any more; a sleeper is to be woken to be the next one, unless that is so already.
+    pub fn step_down(&mut self) -> Call
         ensures appoints { result ≡ Call.Sleeper → self.new.appointed ≡ true }
         ensures nobody { result ≢ Call.Sleeper → (self.new.asleep ≡ 0) ⊎ (self.old.appointed ≡ true) }
         ensures asleep { self.new.asleep ≡ self.old.asleep }
@@ -196,23 +196,23 @@ impl Post {
         }
     }
 
-    // whether a worker waits in the epoll, or was called to
-    pub(crate) fn is_attended(&self) -> bool
+    /// Whether a worker waits in the epoll, or was called to.
+    pub fn is_attended(&self) -> bool
         ensures { result ≡ is_attended self.now.watched self.now.called self.now.summoned }
     {
         self.watched || self.called || self.summoned
     }
 
-    // whether a worker waits in the epoll or sleeps, or was called
-    pub(crate) fn is_free(&self) -> bool
+    /// Whether a worker waits in the epoll or sleeps, or was called.
+    pub fn is_free(&self) -> bool
         ensures { result ≡ is_free (is_attended self.now.watched self.now.called self.now.summoned) self.now.asleep self.now.has_deputy }
     {
         self.is_attended() || self.asleep > 0 || self.has_deputy
     }
 
-    // Has a worker wait in the epoll: who is to be woken for that, a sleeper, and the deputy where no other one sleeps. Who is
-    // noted as called is whom it says.
-    pub(crate) fn attend(&mut self) -> Call
+    /// Has a worker wait in the epoll: who is to be woken for that, a sleeper, and the deputy where no other one sleeps. Who is
+    /// noted as called is whom it says.
+    pub fn attend(&mut self) -> Call
         ensures attended { result ≢ Call.Nobody → is_attended self.new.watched self.new.called self.new.summoned ≡ true }
         ensures enough { result ≡ Call.Enough → self.new ≡ self.old }
         ensures sleeper { result ≡ Call.Sleeper → (0 < self.old.asleep) × (self.new.called ≡ true) }

@@ -5,12 +5,12 @@ use Rattle.std.specs.Option.{option_and_then, option_map_or}
 use Rattle.indexmap.specs.IndexMap.{get}
 use Rattle.sockets.specs.declared.pace.TheConstants.{STEP_BYTES}
 use Rattle.sockets.specs.declared.waits.Waits.{Waits}
-use Rattle.client_hub.specs.declared.parked.Lot.{Lot}
-use Rattle.client_hub.specs.declared.parked.Parked.{Parked}
-use Rattle.client_hub.specs.declared.parked.Slot.{Slot}
-use Rattle.client_hub.specs.declared.parked.Waiting.{Waiting}
-use Rattle.client_hub.specs.declared.parked.Waiting.TheVariants as waiting
-use Rattle.client_hub.specs.declared.parked.TheConstants.{STREAK}
+use Rattle.client_desk.specs.declared.parked.Lot.{Lot}
+use Rattle.client_desk.specs.declared.parked.Parked.{Parked}
+use Rattle.client_desk.specs.declared.parked.Slot.{Slot}
+use Rattle.client_desk.specs.declared.parked.Waiting.{Waiting}
+use Rattle.client_desk.specs.declared.parked.Waiting.TheVariants as waiting
+use Rattle.client_desk.specs.declared.parked.TheConstants.{STREAK}
 
 -- how long a message may take of which so many bytes came: a floor, and a step for each 65,536 bytes
 abbrev pub time_for : ℕ → Waits → ℕ

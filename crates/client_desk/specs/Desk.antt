@@ -1,14 +1,14 @@
 -- What a worker with no connection does next.
 use Rattle.std.specs.Prelude.{ℕ, Bool, List, [], ◌∷◌, length, nat_lt, not, ◌==◌, ◌&&◌, if◌then◌else◌}
 use Rattle.std.specs.Option.{option_map_or}
-use Rattle.client_hub.specs.declared.desk.Desk.{Desk}
-use Rattle.client_hub.specs.declared.desk.Step.{Step}
-use Rattle.client_hub.specs.declared.desk.Step.TheVariants as step
-use Rattle.client_hub.specs.declared.desk.Task.TheVariants as task
-use Rattle.client_hub.specs.declared.parked.Lot.{Lot}
-use Rattle.client_hub.specs.declared.parked.TheConstants.{LISTENER}
-use Rattle.client_hub.specs.Parked.{parked_at}
-use Rattle.client_hub.specs.Post.{is_attended, is_free}
+use Rattle.client_desk.specs.declared.desk.Desk.{Desk}
+use Rattle.client_desk.specs.declared.desk.Step.{Step}
+use Rattle.client_desk.specs.declared.desk.Step.TheVariants as step
+use Rattle.client_desk.specs.declared.desk.Task.TheVariants as task
+use Rattle.client_desk.specs.declared.parked.Lot.{Lot}
+use Rattle.client_desk.specs.declared.parked.TheConstants.{LISTENER}
+use Rattle.client_desk.specs.Parked.{parked_at}
+use Rattle.client_desk.specs.Post.{is_attended, is_free}
 
 -- the first of what is ready, which is the listener, or a connection unless that was closed; where nothing is ready, a
 -- wait in the epoll, unless another worker waits there

@@ -5,13 +5,13 @@ use Rattle.std.specs.List.{fold, sum_by}
 use Rattle.std.specs.Option.{option_map_or}
 use Rattle.std.proofs.lemmas.List.Sums.{sum_by-cons}
 use Rattle.indexmap.specs.IndexMap.{values}
-use Rattle.client_hub.specs.Parked.{counted, gathered, gathered_by, gathered_for, gathered_in, gathered_without, is_old, is_old_for, is_old_message, left_after}
-use Rattle.client_hub.specs.declared.parked.Lot.{Lot}
-use Rattle.client_hub.specs.declared.parked.Parked.{Parked}
-use Rattle.client_hub.specs.declared.parked.Slot.{Slot}
-use Rattle.client_hub.specs.declared.parked.TheConstants.{MESSAGES_MAX}
-use Rattle.client_hub.specs.declared.parked.Waiting.{Waiting}
-use Rattle.client_hub.specs.declared.parked.Waiting.TheVariants as waiting
+use Rattle.client_desk.specs.Parked.{counted, gathered, gathered_by, gathered_for, gathered_in, gathered_without, is_old, is_old_for, is_old_message, left_after}
+use Rattle.client_desk.specs.declared.parked.Lot.{Lot}
+use Rattle.client_desk.specs.declared.parked.Parked.{Parked}
+use Rattle.client_desk.specs.declared.parked.Slot.{Slot}
+use Rattle.client_desk.specs.declared.parked.TheConstants.{MESSAGES_MAX}
+use Rattle.client_desk.specs.declared.parked.Waiting.{Waiting}
+use Rattle.client_desk.specs.declared.parked.Waiting.TheVariants as waiting
 
 step_more : (a b r t most : ℕ) → t ≡ a + r → min (min (b + a) most + r) most ≡ min (b + t) most
 step_more a b r t most is = omega (arith, is)

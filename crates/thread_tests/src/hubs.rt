@@ -1,7 +1,7 @@
 //! Which connection a worker may keep between two requests, over real connections of this machine.
 
 use client_hub::{Hub, Look, Parked, Stance, Taken, Task, Waiting};
-use sockets::{Room, WAITS};
+use sockets::{Room, WAITS, clock_of};
 use std::alloc::Global;
 use std::io::Write;
 use std::net::{Net, TcpListener, TcpStream};
@@ -94,5 +94,35 @@ fn a_connection_that_asks_alone_is_kept(rt: HostRuntime) -> Result<(), Fail> {
     );
     assert_eq!(rt; told?.0, Stance::Attended);
     assert!(rt; matches!(task, Task::Accept));
+    Ok(())
+}
+
+#[test]
+fn whoever_waits_longest_is_given_up_where_no_worker_is_left(rt: HostRuntime) -> Result<(), Fail> {
+    let alloc = rt.alloc();
+    let hub = Hub::new(&rt, alloc, TcpListener::bind(&rt, "127.0.0.1:0")?, WAITS)?;
+    let since = clock_of(&rt).saturating_sub(2_000);
+    let number = hub.begin_wait(&rt, since);
+    // nobody asks
+    assert!(rt; !hub.gives_up(&rt, since));
+    let _client = TcpStream::connect(&rt, hub.local_addr()?)?;
+    thread::sleep(&rt, Duration::from_millis(30));
+    // somebody asks, and nobody took anything meanwhile
+    assert!(rt; hub.gives_up(&rt, since));
+    // another one waits longer
+    assert!(rt; !hub.gives_up(&rt, since.saturating_add(500)));
+    // an origin has three seconds
+    assert!(rt; hub.admits(&rt, 7));
+    assert!(rt; !hub.gives_origin_up(&rt, 7, since));
+    assert!(rt; hub.gives_origin_up(&rt, 7, since.saturating_sub(2_000)));
+    // it is doubted until it answers
+    assert!(rt; !hub.admits(&rt, 7));
+    assert!(rt; hub.admits(&rt, 8));
+    hub.note_answer(&rt, 7, true);
+    assert!(rt; hub.admits(&rt, 7));
+    hub.end_wait(&rt, number);
+    // a worker took it
+    assert!(rt; matches!(hub.next_task(&rt), Task::Accept));
+    assert!(rt; !hub.gives_up(&rt, since));
     Ok(())
 }

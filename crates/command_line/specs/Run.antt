@@ -1,6 +1,5 @@
 -- What each command did, by the contract of the call that it made.
 use Rattle.std.specs.Prelude.{◌≡◌, ◌≢◌, ◌⊎◌, ◌↔◌, ℕ, List, true, None, Some, IfSome, String}
-use Rattle.std.specs.Io.KnownBytes.{Keeps}
 use Rattle.std.specs.declared.alloc.Global.{Global}
 use Rattle.std.specs.declared.option.Option.{Option}
 use Rattle.command_line.specs.Choice.{choice_of}
@@ -10,12 +9,11 @@ use Rattle.edge_base.specs.Causes.{Rose}
 use Rattle.edge_base.specs.declared.status.Status.{Status}
 use Rattle.edge_base.specs.declared.status.Status.TheVariants as status
 use Rattle.generated_script.specs.Numbers.{ScriptNumbers}
-use Rattle.generated_script.specs.Script.{script_of, Generates}
-use Rattle.http_node.specs.Batch.{MeetsNone, ReadsNone, ReadsScript, ReadsSummary, Replays, Sums}
 use Rattle.http_node.specs.Command.{is_replay, is_summary, AsksFor, IsNoCommand}
-use Rattle.http_node.specs.Note.{note_of, serve_note, IsNoted}
+use Rattle.http_node.specs.Note.{note_of, serve_note}
+use Rattle.http_node.specs.Runs.{RunsGenerate, RunsNothing, RunsReplay, RunsSummary}
 use Rattle.http_node.specs.Serve.{IsCommand}
-use Rattle.replay_script.specs.Script.{answers}
+use Rattle.http_node.specs.Told.{GainsNote, StreamTold}
 use Rattle.serve_words.specs.Options.{options_of}
 use Rattle.serve_words.specs.declared.options.Options.{Options}
 use Rattle.trigger_cascade.specs.Cascade.{Answers, LinkTold, Notes, Refuses, Serves, Told}
@@ -25,14 +23,6 @@ use Rattle.trigger_cascade.specs.Task.{task_in}
 use Rattle.trigger_cascade.specs.declared.link.LinkCall.{LinkCall}
 
 -- ---- what is told of what a command is given
-
--- the bytes that a source has left or a sink holds, where they are told, and its count of faults
-pub record StreamTold : Type 0 where
-  pub bytes : Option (List ℕ)
-  pub faults : ℕ
-
-abbrev pub stream_told : {A : Type 0} → (A → Option (List ℕ)) → (A → ℕ) → A → StreamTold
-stream_told bytes faults it = record { bytes = bytes it; faults = faults it }
 
 -- the calls of the outside, where they are told, how many workers were given back, and the count of faults
 pub record OutsideTold : Type 0 where
@@ -45,10 +35,6 @@ outside_told diary returned faults it = record { diary = diary it; returned = re
 
 abbrev pub link_told : {A : Type 0} → (A → Option (List LinkCall)) → (A → ℕ) → A → LinkTold
 link_told calls faults it = record { calls = calls it; faults = faults it }
-
--- the notes gained this note, or a front of it where they failed
-abbrev pub GainsNote : StreamTold → StreamTold → List ℕ → Type 0
-GainsNote notes notes' note = IsNoted notes.bytes notes'.bytes notes.faults notes'.faults note
 
 -- ---- what each command did
 
@@ -88,31 +74,11 @@ pub record RunsCascade (words : List (String Global)) (input input' output outpu
 pub record RunsBatch (words : List (String Global)) (input input' output output' notes notes' : StreamTold)
     (result : Status) : Type 0 where
   pub usage : (result ≡ status.Usage) ↔ IsNoCommand words
-  pub unread : result ≡ status.Usage → Keeps input.bytes input'.bytes
-  pub unwritten : result ≡ status.Usage → Keeps output.bytes output'.bytes
-  pub usage_noted : result ≡ status.Usage → GainsNote notes notes' (note_of status.Usage None)
-  pub served : is_replay words ≡ true
-      → Replays input.bytes input'.bytes output.bytes output'.bytes (GainsNote notes notes') result
-  pub complete : is_replay words ≡ true
-      → (Rose input.faults input'.faults → ⊥) → (Rose output.faults output'.faults → ⊥)
-      → IfSome input.bytes (λ script. (answers script).stops ≡ None → (result ≡ status.Done) ⊎ (result ≡ status.Memory))
-  pub lines : is_replay words ≡ true → ReadsScript input.bytes input'.bytes output.bytes output'.bytes result
-  pub script : is_replay words ≡ true → MeetsNone input.bytes input'.bytes output.bytes output'.bytes
-      → (result ≡ status.Script) ⊎ (result ≡ status.Memory)
-  pub summed : is_summary words ≡ true
-      → Sums input.bytes input'.bytes output.bytes output'.bytes (GainsNote notes notes') result
-  pub summed_lines : is_summary words ≡ true → ReadsSummary input.bytes input'.bytes result
-  pub summed_script : is_summary words ≡ true → ReadsNone input.bytes input'.bytes
-      → (result ≡ status.Script) ⊎ (result ≡ status.Memory)
-  pub summed_complete : is_summary words ≡ true
-      → (Rose input.faults input'.faults → ⊥) → (Rose output.faults output'.faults → ⊥)
-      → IfSome input.bytes (λ script. (answers script).stops ≡ None → (result ≡ status.Done) ⊎ (result ≡ status.Memory))
-  pub generated : (numbers : ScriptNumbers) → AsksFor words numbers
-      → Generates output.bytes output'.bytes (script_of numbers.rounds numbers.seed) result
-  pub generated_unread : (numbers : ScriptNumbers) → AsksFor words numbers → Keeps input.bytes input'.bytes
-  pub generated_noted : (numbers : ScriptNumbers) → AsksFor words numbers → GainsNote notes notes' (note_of result None)
-  pub generated_complete : (numbers : ScriptNumbers) → AsksFor words numbers
-      → (Rose output.faults output'.faults → ⊥) → (result ≡ status.Done) ⊎ (result ≡ status.Memory)
+  pub nothing : result ≡ status.Usage → RunsNothing input input' output output' notes notes'
+  pub replay : is_replay words ≡ true → RunsReplay input input' output output' notes notes' result
+  pub summary : is_summary words ≡ true → RunsSummary input input' output output' notes notes' result
+  pub generate : (numbers : ScriptNumbers) → AsksFor words numbers
+      → RunsGenerate numbers input input' output output' notes notes' result
   pub read : result ≡ status.ReadFault → Rose input.faults input'.faults
   pub read_well : result ≢ status.ReadFault → input'.faults ≡ input.faults
   pub write : result ≡ status.WriteFault → Rose output.faults output'.faults

@@ -5,7 +5,8 @@ ghost use Rattle.std.specs.Process.{exit_status};
 ghost use Rattle.edge_base.specs.Status.{number_of_status};
 ghost use Rattle.edge_base.specs.declared.status.Status.{Status};
 ghost use Rattle.http_node.specs.Note.{note_of, IsNoted};
-ghost use Rattle.command_line.specs.Run.{link_told, outside_told, stream_told, RunsWords};
+ghost use Rattle.command_line.specs.Run.{link_told, outside_told, RunsWords};
+ghost use Rattle.http_node.specs.Told.{stream_told};
 
 use crate::run::run_words;
 use edge_base::{Sink, Source, Status};

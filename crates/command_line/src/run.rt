@@ -2,7 +2,8 @@
 
 ghost use Rattle.std.specs.Prelude.{◌≡◌, ◌≢◌, ◌≤◌, None};
 ghost use Rattle.command_line.specs.Choice.{choice_of};
-ghost use Rattle.command_line.specs.Run.{link_told, outside_told, stream_told, RunsBatch, RunsCascade, RunsServe};
+ghost use Rattle.command_line.specs.Run.{link_told, outside_told, RunsBatch, RunsCascade, RunsServe};
+ghost use Rattle.http_node.specs.Told.{stream_told};
 ghost use Rattle.serve_words.specs.Options.{options_of};
 
 use crate::choice::{Choice, choice_of};

@@ -1,4 +1,6 @@
 pub mod Batch
 pub mod Command
 pub mod Note
+pub mod Runs
 pub mod Serve
+pub mod Told

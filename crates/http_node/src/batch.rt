@@ -14,6 +14,8 @@ ghost use Rattle.generated_law.specs.Law.{IsScript};
 ghost use Rattle.http_node.specs.Batch.{status_of, Replays, ReadsScript, MeetsNone, Sums, ReadsSummary, ReadsNone, WritesSummary};
 ghost use Rattle.http_node.specs.Command.{is_replay, is_summary, AsksFor, IsNoCommand};
 ghost use Rattle.http_node.specs.Note.{end_note, note_of, IsNoted};
+ghost use Rattle.http_node.specs.Runs.{RunsGenerate, RunsNothing, RunsReplay, RunsSummary};
+ghost use Rattle.http_node.specs.Told.{stream_told};
 
 use crate::command::{is_replay, is_summary, numbers_of};
 use crate::law::a_generated_script_goes_on;
@@ -43,50 +45,24 @@ pub fn batch_main<S: Source, K: Sink, E: Sink>(
     notes: &mut E,
 ) -> Status
     ensures usage { (result ≡ Status.Usage) ↔ IsNoCommand words.now }
-    ensures unread { result ≡ Status.Usage → Keeps (S.left input.old) (S.left input.new) }
-    ensures unwritten { result ≡ Status.Usage → Keeps (K.held output.old) (K.held output.new) }
 
-    // What was read, written and noted, by the status.
-    ensures served { is_replay words.now ≡ true
-        → Replays (S.left input.old) (S.left input.new) (K.held output.old) (K.held output.new) (IsNoted
-        (E.held notes.old) (E.held notes.new) (E.faults notes.old) (E.faults notes.new)) result }
-    ensures usage_noted { result ≡ Status.Usage
-        → IsNoted (E.held notes.old) (E.held notes.new) (E.faults notes.old) (E.faults notes.new)
-        (note_of Status.Usage None) }
-    ensures complete { is_replay words.now ≡ true
-        → (Rose (S.faults input.old) (S.faults input.new) → ⊥) → (Rose (K.faults output.old) (K.faults output.new) → ⊥)
-        → IfSome (S.left input.old) (λ script. (answers script).stops ≡ None → (result ≡ Status.Done)
-        ⊎ (result ≡ Status.Memory)) }
-
-    // What was read, where a line is none: the status is that of the script, but for want of memory.
-    ensures lines { is_replay words.now ≡ true
-        → ReadsScript (S.left input.old) (S.left input.new) (K.held output.old) (K.held output.new) result }
-    ensures script { is_replay words.now ≡ true
-        → MeetsNone (S.left input.old) (S.left input.new) (K.held output.old) (K.held output.new)
-        → (result ≡ Status.Script) ⊎ (result ≡ Status.Memory) }
-
-    // The summary: what was read, written and noted, by the status, and where a line is none.
-    ensures summed { is_summary words.now ≡ true
-        → Sums (S.left input.old) (S.left input.new) (K.held output.old) (K.held output.new) (IsNoted
-        (E.held notes.old) (E.held notes.new) (E.faults notes.old) (E.faults notes.new)) result }
-    ensures summed_lines { is_summary words.now ≡ true → ReadsSummary (S.left input.old) (S.left input.new) result }
-    ensures summed_script { is_summary words.now ≡ true → ReadsNone (S.left input.old) (S.left input.new)
-        → (result ≡ Status.Script) ⊎ (result ≡ Status.Memory) }
-    ensures summed_complete { is_summary words.now ≡ true
-        → (Rose (S.faults input.old) (S.faults input.new) → ⊥) → (Rose (K.faults output.old) (K.faults output.new) → ⊥)
-        → IfSome (S.left input.old) (λ script. (answers script).stops ≡ None → (result ≡ Status.Done)
-        ⊎ (result ≡ Status.Memory)) }
-
-    // A generated script: what was written and noted, by the status; nothing is read.
-    ensures generated { (numbers : ScriptNumbers) → AsksFor words.now numbers
-        → Generates (K.held output.old) (K.held output.new) (script_of numbers.rounds numbers.seed) result }
-    ensures generated_unread { (numbers : ScriptNumbers) → AsksFor words.now numbers
-        → Keeps (S.left input.old) (S.left input.new) }
-    ensures generated_noted { (numbers : ScriptNumbers) → AsksFor words.now numbers
-        → IsNoted (E.held notes.old) (E.held notes.new) (E.faults notes.old) (E.faults notes.new) (note_of result None) }
-    ensures generated_complete { (numbers : ScriptNumbers) → AsksFor words.now numbers
-        → (Rose (K.faults output.old) (K.faults output.new) → ⊥)
-        → (result ≡ Status.Done) ⊎ (result ≡ Status.Memory) }
+    // What each command did.
+    ensures nothing { result ≡ Status.Usage → RunsNothing
+        (stream_told S.left S.faults input.old) (stream_told S.left S.faults input.new)
+        (stream_told K.held K.faults output.old) (stream_told K.held K.faults output.new)
+        (stream_told E.held E.faults notes.old) (stream_told E.held E.faults notes.new) }
+    ensures replay { is_replay words.now ≡ true → RunsReplay
+        (stream_told S.left S.faults input.old) (stream_told S.left S.faults input.new)
+        (stream_told K.held K.faults output.old) (stream_told K.held K.faults output.new)
+        (stream_told E.held E.faults notes.old) (stream_told E.held E.faults notes.new) result }
+    ensures summary { is_summary words.now ≡ true → RunsSummary
+        (stream_told S.left S.faults input.old) (stream_told S.left S.faults input.new)
+        (stream_told K.held K.faults output.old) (stream_told K.held K.faults output.new)
+        (stream_told E.held E.faults notes.old) (stream_told E.held E.faults notes.new) result }
+    ensures generate { (numbers : ScriptNumbers) → AsksFor words.now numbers → RunsGenerate numbers
+        (stream_told S.left S.faults input.old) (stream_told S.left S.faults input.new)
+        (stream_told K.held K.faults output.old) (stream_told K.held K.faults output.new)
+        (stream_told E.held E.faults notes.old) (stream_told E.held E.faults notes.new) result }
 
     // The law of deliveries, over the history of every script; what a summary is; and a generated script is one, whose replay
     // does not stop.

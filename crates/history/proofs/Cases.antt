@@ -1,5 +1,5 @@
 -- Which replies answer which entry, row by row.
-use Rattle.std.proofs.Common.{◌≡◌, ℕ, ◌+◌, ◌==◌, Bool, true, false, cond, List, [], ◌∷◌, length, refl, sym, ap, ◌∙◌, subst, None, Some, Option}
+use Rattle.std.proofs.Common.{◌≡◌, ℕ, ◌+◌, ◌==◌, ◌||◌, Bool, true, false, cond, List, [], ◌∷◌, length, refl, sym, ap, ◌∙◌, subst, None, Some, Option}
 use Rattle.std.specs.List.{find, list_any}
 use Rattle.std.specs.Option.{is_some, option_and_then}
 use Rattle.cdni_base.specs.declared.rule.Rule.{Rule}
@@ -13,8 +13,8 @@ use Rattle.targets.specs.declared.endpoint.Endpoint.{Endpoint}
 use Rattle.upstream_gate.specs.declared.outcome.Outcome.{Outcome}
 use Rattle.history.specs.Event.{Entry, Event, Admit, FetchEnd, Finish, RefreshBegin, RefreshEnd, Command, Advance, Cancel, Delete, ReadStatus, Lists, Cut, LogFile, ListLogs, DropLog, Request}
 use Rattle.history.specs.Kept.{kept_of}
-use Rattle.history.specs.Metadata.{forbidden, is_skipped, key_at, plan_at}
-use Rattle.history.specs.Reply.{admit_reply, advance_reply, allowed_reply, begin_reply, cancel_reply, command_reply, cut_reply, delete_reply, drop_reply, fetch_end_reply, file_of, finish_reply, fresh_reply, gained_of, install_reply, judged_reply, log_reply, newer_than, next_due, opening, pending, refresh_end_reply, reply_in, status_reply, step_reply, tree_reply, url_reply}
+use Rattle.history.specs.Metadata.{ccid_at, forbidden, is_skipped, key_at, plan_at}
+use Rattle.history.specs.Reply.{admit_reply, advance_reply, allowed_reply, begin_reply, confirmed_of, doubted_reply, tag_for, cancel_reply, command_reply, cut_reply, delete_reply, drop_reply, fetch_end_reply, file_of, finish_reply, fresh_reply, gained_of, install_reply, judged_reply, log_reply, newer_than, next_due, opening, pending, refresh_end_reply, reply_in, status_reply, step_reply, tree_reply, url_reply}
 use Rattle.history.specs.Steps.{Step, Ended, Claimed, Waits, Starts, Refreshes, Fetches, Ends, first_hit, first_unknown, index_of, invalid_of, step_of, trigger_of}
 use Rattle.history.specs.World.{Begun, Filed, Kept, Recorded, Trigger, World, is_open}
 use Rattle.history.specs.declared.begun.Fetching.{Fetching}
@@ -29,6 +29,11 @@ either P false x y one two = two
 pub opening_cases : (w : World) (P : Reply → Type 0) (r : Reply) → ((n : ℕ) → P (reply.Full n)) → P r → P (opening w r)
 opening_cases w P r full this = either P (w.counts.opened == w.made.limits.opened) (reply.Full w.counts.opened) r (full w.counts.opened) this
 
+-- nothing that is kept can be given or confirmed: it is doubtful, and has no tag or is of another collection
+abbrev pub CanAskNothing : Option (List ℕ) → Option Kept → Type 0
+CanAskNothing ccid None = Unit {0}
+CanAskNothing ccid (Some kept) = (kept.doubtful ≡ true) × (tag_for ccid kept ≡ None)
+
 module _ (w : World) (pass : ℕ) (request : Request) (moment : ℕ) (P : Reply → Type 0) where
   abbrev the_rule : Option Rule
   the_rule = forbidden (index_of w.delivering) (invalid_of w.delivering) request.asked request.place moment
@@ -36,31 +41,51 @@ module _ (w : World) (pass : ℕ) (request : Request) (moment : ℕ) (P : Reply 
   abbrev the_kept : Option Kept
   the_kept = kept_of (key_at (index_of w.delivering) request.asked.target) w.delivering.kept
 
-  allowed_cases : (found : Option Kept) → found ≡ the_kept → ((kept : Kept) → the_kept ≡ Some kept → P (reply.Hit (w.counts.delivered + 1) kept.fetch kept.kind kept.body))
-      → (the_kept ≡ None → P (reply.Miss (w.counts.delivered + 1) (w.counts.fetched + 1) (plan_at (index_of w.delivering) request.asked.target))) → P (allowed_reply w request.asked found)
-  allowed_cases None is hit miss = miss (sym is)
-  allowed_cases (Some kept) is hit miss = hit kept (sym is)
+  abbrev the_ccid : Option (List ℕ)
+  the_ccid = ccid_at (index_of w.delivering) request.asked.target
 
-  judged_cases : (found : Option Rule) → found ≡ the_rule → ((rule : Rule) → P (reply.Denied (w.counts.delivered + 1) rule))
-      → ((kept : Kept) → the_kept ≡ Some kept → P (reply.Hit (w.counts.delivered + 1) kept.fetch kept.kind kept.body))
-      → (the_kept ≡ None → P (reply.Miss (w.counts.delivered + 1) (w.counts.fetched + 1) (plan_at (index_of w.delivering) request.asked.target))) → P (judged_reply w request.asked found)
-  judged_cases None is denied hit miss = allowed_cases the_kept refl hit miss
-  judged_cases (Some rule) is denied hit miss = denied rule
+  abbrev the_plan : List Endpoint
+  the_plan = plan_at (index_of w.delivering) request.asked.target
 
-  pub admit_cases : ((n : ℕ) → P (reply.Full n)) → ((rule : Rule) → P (reply.Denied (w.counts.delivered + 1) rule))
-      → ((kept : Kept) → the_kept ≡ Some kept → P (reply.Hit (w.counts.delivered + 1) kept.fetch kept.kind kept.body))
-      → (the_kept ≡ None → P (reply.Miss (w.counts.delivered + 1) (w.counts.fetched + 1) (plan_at (index_of w.delivering) request.asked.target)))
-      → P (reply_in w (pass, Admit request moment))
+  abbrev OnHit : Type 0
+  OnHit = (kept : Kept) → the_kept ≡ Some kept → kept.doubtful ≡ false → P (reply.Hit (w.counts.delivered + 1) kept.fetch kept.kind kept.body)
+
+  abbrev OnCheck : Type 0
+  OnCheck = (kept : Kept) (tag : List ℕ) → the_kept ≡ Some kept → kept.doubtful ≡ true → tag_for the_ccid kept ≡ Some tag
+      → P (reply.Check (w.counts.delivered + 1) (w.counts.fetched + 1) kept.fetch kept.kind tag kept.body the_plan)
+
+  abbrev OnMiss : Type 0
+  OnMiss = CanAskNothing the_ccid the_kept → P (reply.Miss (w.counts.delivered + 1) (w.counts.fetched + 1) the_plan)
+
+  doubted_cases : (kept : Kept) → the_kept ≡ Some kept → kept.doubtful ≡ true → (found : Option (List ℕ)) → tag_for the_ccid kept ≡ found → OnCheck → OnMiss
+      → P (doubted_reply w request.asked kept found)
+  doubted_cases kept is doubtful None none check miss = miss (subst (CanAskNothing the_ccid) (sym is) (doubtful, none))
+  doubted_cases kept is doubtful (Some tag) some check miss = check kept tag is doubtful some
+
+  found_cases : (kept : Kept) → the_kept ≡ Some kept → (doubtful : Bool) → kept.doubtful ≡ doubtful → OnHit → OnCheck → OnMiss
+      → P (cond doubtful (doubted_reply w request.asked kept (tag_for the_ccid kept)) (reply.Hit (w.counts.delivered + 1) kept.fetch kept.kind kept.body))
+  found_cases kept is true doubtful hit check miss = doubted_cases kept is doubtful (tag_for the_ccid kept) refl check miss
+  found_cases kept is false sure hit check miss = hit kept is sure
+
+  allowed_cases : (found : Option Kept) → the_kept ≡ found → OnHit → OnCheck → OnMiss → P (allowed_reply w request.asked found)
+  allowed_cases None is hit check miss = miss (subst (CanAskNothing the_ccid) (sym is) tt)
+  allowed_cases (Some kept) is hit check miss = found_cases kept is kept.doubtful refl hit check miss
+
+  judged_cases : (found : Option Rule) → ((rule : Rule) → P (reply.Denied (w.counts.delivered + 1) rule)) → OnHit → OnCheck → OnMiss → P (judged_reply w request.asked found)
+  judged_cases None denied hit check miss = allowed_cases the_kept refl hit check miss
+  judged_cases (Some rule) denied hit check miss = denied rule
+
+  pub admit_cases : ((n : ℕ) → P (reply.Full n)) → ((rule : Rule) → P (reply.Denied (w.counts.delivered + 1) rule)) → OnHit → OnCheck → OnMiss → P (reply_in w (pass, Admit request moment))
   unfolding reply_in
-  admit_cases full denied hit miss = either P (pending w.delivering == w.made.limits.rows) _ _ (full (pending w.delivering)) (opening_cases w P _ full (judged_cases the_rule refl denied hit miss))
+  admit_cases full denied hit check miss = either P (pending w.delivering == w.made.limits.rows) _ _ (full (pending w.delivering)) (opening_cases w P _ full (judged_cases the_rule denied hit check miss))
 
 module _ (w : World) (pass : ℕ) (P : Reply → Type 0) where
-  fetch_end_by : (fetch : ℕ) (outcome : Outcome) (found : Option (Begun Fetching)) → P (reply.NotOpen fetch) → ((begun : Begun Fetching) → found ≡ Some begun → P (reply.Ended (is_some (gained_of w outcome begun)))) → P (fetch_end_reply w fetch outcome found)
+  fetch_end_by : (fetch : ℕ) (outcome : Outcome) (found : Option (Begun Fetching)) → P (reply.NotOpen fetch) → ((begun : Begun Fetching) → found ≡ Some begun → P (reply.Ended (is_some (gained_of w outcome begun) || is_some (confirmed_of w outcome begun)))) → P (fetch_end_reply w fetch outcome found)
   fetch_end_by fetch outcome None none some = none
   fetch_end_by fetch outcome (Some begun) none some = some begun refl
 
   pub fetch_end_cases : (fetch : ℕ) (outcome : Outcome) (moment : ℕ) → P (reply.NotOpen fetch)
-      → ((begun : Begun Fetching) → find (is_open fetch pass) w.delivering.fetches ≡ Some begun → P (reply.Ended (is_some (gained_of w outcome begun)))) → P (reply_in w (pass, FetchEnd fetch outcome moment))
+      → ((begun : Begun Fetching) → find (is_open fetch pass) w.delivering.fetches ≡ Some begun → P (reply.Ended (is_some (gained_of w outcome begun) || is_some (confirmed_of w outcome begun)))) → P (reply_in w (pass, FetchEnd fetch outcome moment))
   unfolding reply_in
   fetch_end_cases fetch outcome moment none some = fetch_end_by fetch outcome (find (is_open fetch pass) w.delivering.fetches) none some
 

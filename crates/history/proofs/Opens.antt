@@ -184,7 +184,7 @@ RefreshChange w e r = Changes e (begun_refresh r) ends_refresh w.delivering.refr
 refresh_change : (w : World) (e : Entry) → RefreshChange w e (reply_in w e)
 refresh_change w (pass, Admit request moment) = admit_cases w pass request moment (RefreshChange w (pass, Admit request moment))
     (λ n. inl (stays_as refl refl (λ n pass. refl))) (λ rule. inl (stays_as refl refl (λ n pass. refl)))
-    (λ kept is. inl (stays_as refl refl (λ n pass. refl))) (λ is. inl (stays_as refl refl (λ n pass. refl)))
+    (λ kept is sure. inl (stays_as refl refl (λ n pass. refl))) (λ kept tag is doubtful some. inl (stays_as refl refl (λ n pass. refl))) (λ is. inl (stays_as refl refl (λ n pass. refl)))
 refresh_change w (pass, FetchEnd fetch outcome moment) = fetch_end_cases w pass (RefreshChange w (pass, FetchEnd fetch outcome moment)) fetch outcome moment
     (inl (stays_as refl refl (λ n pass. refl))) (λ begun is. inl (stays_as refl refl (λ n pass. refl)))
 refresh_change w (pass, Finish delivery status total entity moment) = finish_cases w pass (RefreshChange w (pass, Finish delivery status total entity moment)) delivery status total entity moment
@@ -248,8 +248,9 @@ FetchChange w e r = Changes e (begun_fetch r) ends_fetch w.delivering.fetches (f
 fetch_change : (w : World) (e : Entry) → FetchChange w e (reply_in w e)
 fetch_change w (pass, Admit request moment) = admit_cases w pass request moment (FetchChange w (pass, Admit request moment))
     (λ n. inl (stays_as refl refl (λ n pass. refl))) (λ rule. inl (stays_as refl refl (λ n pass. refl)))
-    (λ kept is. inl (stays_as refl refl (λ n pass. refl)))
-    (λ is. inr (inl (record { one = record { number = w.counts.fetched + 1; pass = pass; at = w.entries + 1; what = fetching w request.asked.target }; number = refl; by = refl; more = refl; others = λ n pass. refl })))
+    (λ kept is sure. inl (stays_as refl refl (λ n pass. refl)))
+    (λ kept tag is doubtful some. inr (inl (record { one = record { number = w.counts.fetched + 1; pass = pass; at = w.entries + 1; what = fetching w (Some kept.fetch) request.asked.target }; number = refl; by = refl; more = refl; others = λ n pass. refl })))
+    (λ is. inr (inl (record { one = record { number = w.counts.fetched + 1; pass = pass; at = w.entries + 1; what = fetching w None request.asked.target }; number = refl; by = refl; more = refl; others = λ n pass. refl })))
 fetch_change w (pass, FetchEnd fetch outcome moment) = fetch_end_cases w pass (FetchChange w (pass, FetchEnd fetch outcome moment)) fetch outcome moment
     (inr (inr (closes_as fetch refl refl (λ n by. refl)))) (λ begun is. inr (inr (closes_as fetch refl refl (λ n by. refl))))
 fetch_change w (pass, Finish delivery status total entity moment) = finish_cases w pass (FetchChange w (pass, Finish delivery status total entity moment)) delivery status total entity moment
@@ -268,7 +269,7 @@ fetch_change w (pass, Advance id moment) = advance_cases w pass (FetchChange w (
     (λ by. inl (stays_as refl refl (λ n pass. refl))) (λ n. inl (stays_as refl refl (λ n pass. refl)))
     (inl (stays_as refl refl (λ n pass. refl)))
     (inl (stays_as refl refl (λ n pass. refl)))
-    (λ n. inl (stays_as refl refl (λ n pass. refl))) (λ target. inr (inl (record { one = record { number = w.counts.fetched + 1; pass = pass; at = w.entries + 1; what = fetching w target }; number = refl; by = refl; more = refl; others = λ n pass. refl })))
+    (λ n. inl (stays_as refl refl (λ n pass. refl))) (λ target. inr (inl (record { one = record { number = w.counts.fetched + 1; pass = pass; at = w.entries + 1; what = fetching w None target }; number = refl; by = refl; more = refl; others = λ n pass. refl })))
     id moment (inl (stays_as refl refl (λ n pass. refl)))
 fetch_change w (pass, Cancel ids moment) = cancel_cases w pass (FetchChange w (pass, Cancel ids moment)) ids moment
     (λ id. inl (stays_as refl refl (λ n pass. refl))) (λ list. inl (stays_as refl refl (λ n pass. refl)))
@@ -313,7 +314,8 @@ DeliveryChange w e r = Changes e (begun_delivery r) ends_delivery w.delivering.d
 delivery_change : (w : World) (e : Entry) → DeliveryChange w e (reply_in w e)
 delivery_change w (pass, Admit request moment) = admit_cases w pass request moment (DeliveryChange w (pass, Admit request moment))
     (λ n. inl (stays_as refl refl (λ n pass. refl))) (λ rule. inr (inl (record { one = record { number = w.counts.delivered + 1; pass = pass; at = w.entries + 1; what = admission request moment None false }; number = refl; by = refl; more = refl; others = λ n pass. refl })))
-    (λ kept is. inr (inl (record { one = record { number = w.counts.delivered + 1; pass = pass; at = w.entries + 1; what = admission request moment (ccid_at (index_of w.delivering) request.asked.target) true }; number = refl; by = refl; more = refl; others = λ n pass. refl })))
+    (λ kept is sure. inr (inl (record { one = record { number = w.counts.delivered + 1; pass = pass; at = w.entries + 1; what = admission request moment (ccid_at (index_of w.delivering) request.asked.target) true }; number = refl; by = refl; more = refl; others = λ n pass. refl })))
+    (λ kept tag is doubtful some. inr (inl (record { one = record { number = w.counts.delivered + 1; pass = pass; at = w.entries + 1; what = admission request moment (ccid_at (index_of w.delivering) request.asked.target) false }; number = refl; by = refl; more = refl; others = λ n pass. refl })))
     (λ is. inr (inl (record { one = record { number = w.counts.delivered + 1; pass = pass; at = w.entries + 1; what = admission request moment (ccid_at (index_of w.delivering) request.asked.target) false }; number = refl; by = refl; more = refl; others = λ n pass. refl })))
 delivery_change w (pass, FetchEnd fetch outcome moment) = fetch_end_cases w pass (DeliveryChange w (pass, FetchEnd fetch outcome moment)) fetch outcome moment
     (inl (stays_as refl refl (λ n pass. refl))) (λ begun is. inl (stays_as refl refl (λ n pass. refl)))

@@ -15,9 +15,9 @@ use Rattle.trigger_command.specs.declared.spec.TriggerKind.TheVariants.{Preposit
 use Rattle.trigger_status.specs.declared.job.JobStatus.TheVariants.{Pending}
 use Rattle.upstream_gate.specs.declared.outcome.Outcome.{Outcome}
 use Rattle.history.specs.Event.{Entry, Event, Admit, FetchEnd, Finish, RefreshBegin, RefreshEnd, Command, Advance, Cancel, Delete, ReadStatus, Lists, Cut, LogFile, ListLogs, DropLog, Request}
-use Rattle.history.specs.Kept.{full_content, unhit, used, with_gained}
+use Rattle.history.specs.Kept.{full_content, left_after, used, with_confirmed, with_gained}
 use Rattle.history.specs.Metadata.{ccid_at, key_at}
-use Rattle.history.specs.Reply.{gained_of, reply_in}
+use Rattle.history.specs.Reply.{confirmed_of, gained_of, reply_in}
 use Rattle.history.specs.Steps.{awaits_fetch, awaits_refresh, cancelled, changed, ended, fetched, index_of, is_trigger, refreshed, skipped, started, trigger_of, waiting}
 use Rattle.history.specs.World.{Begun, Counts, Controlling, Delivering, Filed, Installed, Kept, OneFetch, OneRefresh, Recorded, Start, Trigger, World, is_open}
 use Rattle.history.specs.declared.begun.Admission.{Admission}
@@ -57,19 +57,22 @@ refreshes_after w entry answer = w.delivering.refreshes
 
 -- ---- fetches and what is kept
 
--- the key and the collection of a target, when its fetch begins
-abbrev pub fetching : World → Target → Fetching
-fetching w target = record {
+-- the key and the collection of a target, when its fetch begins, and the base of that
+abbrev pub fetching : World → Option ℕ → Target → Fetching
+fetching w base target = record {
   key = key_at (index_of w.delivering) target;
   ccid = ccid_at (index_of w.delivering) target;
+  base = base;
 }
 
--- a fetch begins with an Admit that is answered Miss, and with a step of a trigger; its FetchEnd ends it
+-- a fetch begins with an Admit that is answered Miss or Check, and with a step of a trigger; its FetchEnd ends it
 abbrev pub fetches_after : World → Entry → Reply → List (Begun Fetching)
 fetches_after w (pass, Admit request moment) (reply.Miss delivery fetch plan) = w.delivering.fetches
-    ++ record { number = fetch; pass = pass; at = position w; what = fetching w request.asked.target } ∷ []
+    ++ record { number = fetch; pass = pass; at = position w; what = fetching w None request.asked.target } ∷ []
+fetches_after w (pass, Admit request moment) (reply.Check delivery fetch base kind tag body plan) = w.delivering.fetches
+    ++ record { number = fetch; pass = pass; at = position w; what = fetching w (Some base) request.asked.target } ∷ []
 fetches_after w (pass, Advance id moment) (reply.Fetch fetch plan target) = w.delivering.fetches
-    ++ record { number = fetch; pass = pass; at = position w; what = fetching w target } ∷ []
+    ++ record { number = fetch; pass = pass; at = position w; what = fetching w None target } ∷ []
 fetches_after w (pass, FetchEnd fetch outcome moment) answer = closed fetch pass w.delivering.fetches
 fetches_after w entry answer = w.delivering.fetches
 
@@ -92,13 +95,17 @@ abbrev pub starts_after : World → Entry → Reply → List Start
 starts_after w (pass, Advance id moment) reply.Started = w.delivering.starts ++ option_to_list (start_of w id)
 starts_after w entry answer = w.delivering.starts
 
--- a hit uses its object; the end of an open fetch keeps what it gained; a start removes what it hits
+-- a hit uses its object; the end of an open fetch keeps what it gained or confirmed; a start removes what it hits, or has
+-- doubts of it
 abbrev pub kept_after : World → Entry → Reply → List Kept
 kept_after w (pass, Admit request moment) (reply.Hit delivery fetch kind body) =
     used (key_at (index_of w.delivering) request.asked.target) w.delivering.kept
-kept_after w (pass, FetchEnd fetch outcome moment) answer = with_gained w.made.limits.cache w.delivering.kept
-    (option_and_then (gained_of w outcome) (find (is_open fetch pass) w.delivering.fetches))
-kept_after w (pass, Advance id moment) reply.Started = unhit (start_of w id) w.delivering.kept
+kept_after w (pass, FetchEnd fetch outcome moment) answer =
+    let begun = find (is_open fetch pass) w.delivering.fetches in
+    with_confirmed fetch
+    (with_gained w.made.limits.cache w.delivering.kept (option_and_then (gained_of w outcome) begun))
+    (option_and_then (confirmed_of w outcome) begun)
+kept_after w (pass, Advance id moment) reply.Started = left_after (start_of w id) w.delivering.kept
 kept_after w entry answer = w.delivering.kept
 
 -- ---- deliveries and their rows
@@ -124,13 +131,16 @@ abbrev pub delivery_begun : World → ℕ → ℕ → Admission → List (Begun 
 delivery_begun w pass delivery what =
     w.delivering.deliveries ++ record { number = delivery; pass = pass; at = position w; what = what } ∷ []
 
--- a delivery begins with an Admit that is answered Denied, Hit or Miss; its Finish ends it
+-- a delivery begins with an Admit that is answered Denied, Hit, Miss or Check; its Finish ends it
 abbrev pub deliveries_after : World → Entry → Reply → List (Begun Admission)
 deliveries_after w (pass, Admit request moment) (reply.Denied delivery rule) =
     delivery_begun w pass delivery (admission request moment None false)
 deliveries_after w (pass, Admit request moment) (reply.Hit delivery fetch kind body) = delivery_begun w pass delivery
     (admission request moment (ccid_at (index_of w.delivering) request.asked.target) true)
 deliveries_after w (pass, Admit request moment) (reply.Miss delivery fetch plan) = delivery_begun w pass delivery
+    (admission request moment (ccid_at (index_of w.delivering) request.asked.target) false)
+deliveries_after w (pass, Admit request moment) (reply.Check delivery fetch base kind tag body plan) =
+    delivery_begun w pass delivery
     (admission request moment (ccid_at (index_of w.delivering) request.asked.target) false)
 deliveries_after w (pass, Finish delivery status total entity moment) answer =
     closed delivery pass w.delivering.deliveries
@@ -260,6 +270,7 @@ abbrev pub opened_by : Reply → ℕ
 opened_by (reply.Denied delivery rule) = 1
 opened_by (reply.Hit delivery fetch kind body) = 1
 opened_by (reply.Miss delivery fetch plan) = 1
+opened_by (reply.Check delivery fetch base kind tag body plan) = 1
 opened_by (reply.Due refresh) = 1
 opened_by (reply.Created id) = 1
 opened_by reply.Started = 1
@@ -273,11 +284,13 @@ abbrev pub begun_delivery : Reply → Option ℕ
 begun_delivery (reply.Denied delivery rule) = Some delivery
 begun_delivery (reply.Hit delivery fetch kind body) = Some delivery
 begun_delivery (reply.Miss delivery fetch plan) = Some delivery
+begun_delivery (reply.Check delivery fetch base kind tag body plan) = Some delivery
 begun_delivery answer = None
 
 -- that of the fetch
 abbrev pub begun_fetch : Reply → Option ℕ
 begun_fetch (reply.Miss delivery fetch plan) = Some fetch
+begun_fetch (reply.Check delivery fetch base kind tag body plan) = Some fetch
 begun_fetch (reply.Fetch fetch plan target) = Some fetch
 begun_fetch answer = None
 

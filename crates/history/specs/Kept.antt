@@ -1,11 +1,13 @@
 -- Which fetched content is kept, and which leaves.
-use Rattle.std.specs.Prelude.{ℕ, Bool, false, not, nat_lt, nat_le, ◌&&◌, ◌==◌, List, [], ◌∷◌, ◌++◌, None, Some, length, filter, find, sum_by, if◌then◌else◌}
-use Rattle.std.specs.List.{list_any}
-use Rattle.std.specs.Option.{option_and_then, option_map_or}
+use Rattle.std.specs.Prelude.{ℕ, Bool, true, false, not, nat_lt, nat_le, ◌&&◌, ◌==◌, List, [], ◌∷◌, ◌++◌, None, Some, length, filter, find, sum_by, bytes_eq, if◌then◌else◌}
+use Rattle.std.specs.List.{filter_map, list_any}
+use Rattle.std.specs.Option.{option_and_then, option_map, option_map_or}
 use Rattle.std.specs.declared.option.Option.{Option}
 use Rattle.cdni_base.specs.Key.{KeyParts, same_key}
 use Rattle.rows.specs.Row.{moved}
 use Rattle.trigger_command.specs.Selection.{hits}
+use Rattle.trigger_command.specs.declared.spec.TriggerKind.{TriggerKind}
+use Rattle.trigger_command.specs.declared.spec.TriggerKind.TheVariants.{Preposition, Invalidate, Purge}
 use Rattle.upstream_gate.specs.Got.{GotParts}
 use Rattle.upstream_gate.specs.declared.outcome.Outcome.{Outcome}
 use Rattle.upstream_gate.specs.declared.outcome.Outcome.TheVariants as outcome
@@ -46,6 +48,12 @@ evicted most (kept ∷ objects) = if nat_le (total (kept ∷ objects)) most then
 abbrev pub put : ℕ → List Kept → Kept → List Kept
 put limit objects kept = evicted limit (others kept.key objects ++ kept ∷ [])
 
+-- both are of the same collection, or of none
+abbrev pub same_ccid : Option (List ℕ) → Option (List ℕ) → Bool
+same_ccid None None = true
+same_ccid (Some one) (Some other) = bytes_eq one other
+same_ccid one other = false
+
 -- ---- what a fetch brings
 
 -- a start after this position hits the key or the ccid
@@ -62,14 +70,22 @@ abbrev pub full_content : Outcome → Option GotParts
 full_content (outcome.Got got) = if got.status == 200 then Some got else None
 full_content _ = None
 
+-- the same, where it may be stored (RFC 9111, section 5.2.2.5)
+abbrev pub storable : Outcome → Option GotParts
+storable (outcome.Got got) = if got.status == 200 && got.store then Some got else None
+storable _ = None
+
 -- the content that this fetch brought
 abbrev pub brought : ℕ → Fetching → GotParts → Kept
 brought fetch what got = record {
   fetch = fetch;
+  origin = fetch;
   key = what.key;
   ccid = what.ccid;
   kind = got.kind;
+  tag = got.tag;
   body = got.body;
+  doubtful = false;
 }
 
 -- it has at most as many bytes as are kept at all, no kept object of its key has a greater fetch, and no start since its
@@ -85,14 +101,44 @@ kept_content limit hit objects fetch what got =
 -- what is kept of an open fetch that ended so, where a start has hit it since it began, or none has
 abbrev pub gained : ℕ → Bool → List Kept → ℕ → Fetching → Outcome → Option Kept
 gained limit hit objects fetch what ended =
-    option_and_then (kept_content limit hit objects fetch what) (full_content ended)
+    option_and_then (kept_content limit hit objects fetch what) (storable ended)
 
 -- the objects with what was gained
 abbrev pub with_gained : ℕ → List Kept → Option Kept → List Kept
 with_gained limit objects None = objects
 with_gained limit objects (Some kept) = put limit objects kept
 
--- those that a selection does not hit
-abbrev pub unhit : Option Start → List Kept → List Kept
-unhit None objects = objects
-unhit (Some start) objects = filter (λ kept. not (hits start.selection kept.key kept.ccid)) objects
+-- what is kept of this fetch
+abbrev pub kept_by : ℕ → List Kept → Option Kept
+kept_by fetch objects = find (λ kept. kept.fetch == fetch) objects
+
+-- what an open fetch confirms that ended so, where a start has hit it since it began, or none has
+abbrev pub confirmed : Bool → List Kept → Fetching → Outcome → Option Kept
+confirmed hit objects what outcome.Unchanged =
+    if hit then None else option_and_then (λ base. kept_by base objects) what.base
+confirmed hit objects what _ = None
+
+-- it is of the fetch that confirmed it, and not doubtful
+abbrev pub confirmed_by : ℕ → Kept → Kept
+confirmed_by fetch kept = record kept { fetch = fetch; doubtful = false }
+
+-- the objects with what was confirmed, which goes to the end
+abbrev pub with_confirmed : ℕ → List Kept → Option Kept → List Kept
+with_confirmed fetch objects None = objects
+with_confirmed fetch objects (Some kept) = others kept.key objects ++ confirmed_by fetch kept ∷ []
+
+-- what a start leaves of an object that it hits (RFC 8007, sections 4.2 and 4.3): a purge nothing, and an invalidate what has
+-- a tag, by which it can be confirmed
+abbrev pub left_by : TriggerKind → Kept → Option Kept
+left_by Purge kept = None
+left_by Invalidate kept = option_map (λ tag. record kept { doubtful = true }) kept.tag
+left_by Preposition kept = Some kept
+
+-- what it leaves of any object
+abbrev pub left_of : Start → Kept → Option Kept
+left_of start kept = if hits start.selection kept.key kept.ccid then left_by start.kind kept else Some kept
+
+-- what a start leaves
+abbrev pub left_after : Option Start → List Kept → List Kept
+left_after None objects = objects
+left_after (Some start) objects = filter_map (left_of start) objects

@@ -1,5 +1,5 @@
 -- What a call is answered, row by row: in each the first line that applies is the answer.
-use Rattle.std.specs.Prelude.{ℕ, ◌+◌, ◌-◌, ◌^◌, Bool, min, nat_lt, ◌==◌, List, [], ◌∷◌, length, map, None, Some, is_some, if◌then◌else◌}
+use Rattle.std.specs.Prelude.{ℕ, ◌+◌, ◌-◌, ◌^◌, Bool, min, nat_lt, ◌==◌, ◌||◌, List, [], ◌∷◌, length, map, None, Some, is_some, if◌then◌else◌}
 use Rattle.std.specs.List.{find, list_any}
 use Rattle.std.specs.Option.{option_and_then, option_map_or}
 use Rattle.std.specs.declared.option.Option.{Option}
@@ -13,8 +13,8 @@ use Rattle.upstream_gate.specs.declared.outcome.Outcome.{Outcome}
 use Rattle.cdni_log.specs.File.{file_text}
 use Rattle.cdni_log.specs.declared.row.FileHead.{FileHead}
 use Rattle.history.specs.Event.{Entry, Event, Admit, FetchEnd, Finish, RefreshBegin, RefreshEnd, Command, Advance, Cancel, Delete, ReadStatus, Lists, Cut, LogFile, ListLogs, DropLog}
-use Rattle.history.specs.Kept.{kept_of, gained, is_hit_since}
-use Rattle.history.specs.Metadata.{forbidden, is_skipped, key_at, plan_at}
+use Rattle.history.specs.Kept.{confirmed, kept_of, gained, is_hit_since, same_ccid}
+use Rattle.history.specs.Metadata.{ccid_at, forbidden, is_skipped, key_at, plan_at}
 use Rattle.history.specs.Steps as steps
 use Rattle.history.specs.Steps.{Step, Ended, Claimed, Waits, Starts, Refreshes, Fetches, Ends, cancelled, first_hit, first_unknown, index_of, invalid_of, listed, statuses_of, step_of, trigger_of}
 use Rattle.history.specs.World.{Begun, Delivering, Filed, Installed, Kept, Recorded, Trigger, World, is_open}
@@ -33,18 +33,35 @@ opening w answer = if w.counts.opened == w.made.limits.opened then reply.Full w.
 abbrev pub pending : Delivering → ℕ
 pending d = length d.deliveries + length d.unfiled
 
--- an allowed delivery has what is kept under its key, or waits for a fetch
-abbrev pub allowed_reply : World → Asked → Option Kept → Reply
-allowed_reply w asked (Some kept) = reply.Hit (w.counts.delivered + 1) kept.fetch kept.kind kept.body
-allowed_reply w asked None =
+-- a delivery that waits for a fetch
+abbrev pub missed_reply : World → Asked → Reply
+missed_reply w asked =
     reply.Miss (w.counts.delivered + 1) (w.counts.fetched + 1) (plan_at (index_of w.delivering) asked.target)
+
+-- the tag of what is kept, where it is of this collection
+abbrev pub tag_for : Option (List ℕ) → Kept → Option (List ℕ)
+tag_for ccid kept = if same_ccid ccid kept.ccid then kept.tag else None
+
+-- one that waits for a fetch which asks whether what is kept, and has this tag, is unchanged
+abbrev pub doubted_reply : World → Asked → Kept → Option (List ℕ) → Reply
+doubted_reply w asked kept None = missed_reply w asked
+doubted_reply w asked kept (Some tag) = reply.Check (w.counts.delivered + 1) (w.counts.fetched + 1) kept.fetch
+    kept.kind tag kept.body (plan_at (index_of w.delivering) asked.target)
+
+-- an allowed delivery has what is kept under its key, or waits for a fetch, which asks for its tag where it is doubtful and
+-- of the collection of the request
+abbrev pub allowed_reply : World → Asked → Option Kept → Reply
+allowed_reply w asked None = missed_reply w asked
+allowed_reply w asked (Some kept) = if kept.doubtful
+    then doubted_reply w asked kept (tag_for (ccid_at (index_of w.delivering) asked.target) kept)
+    else reply.Hit (w.counts.delivered + 1) kept.fetch kept.kind kept.body
 
 abbrev pub judged_reply : World → Asked → Option Rule → Reply
 judged_reply w asked (Some rule) = reply.Denied (w.counts.delivered + 1) rule
 judged_reply w asked None =
     allowed_reply w asked (kept_of (key_at (index_of w.delivering) asked.target) w.delivering.kept)
 
--- full of deliveries and rows, full, denied by the first rule that forbids, a hit, or a miss
+-- full of deliveries and rows, full, denied by the first rule that forbids, a hit, a check, or a miss
 abbrev pub admit_reply : World → Asked → Place → ℕ → Reply
 admit_reply w asked place moment = if pending w.delivering == w.made.limits.rows then reply.Full (pending w.delivering)
     else opening w (judged_reply w asked
@@ -61,9 +78,14 @@ abbrev pub gained_of : World → Outcome → Begun Fetching → Option Kept
 gained_of w outcome begun = gained w.made.limits.cache (is_hit w.delivering begun) w.delivering.kept begun.number
     begun.what outcome
 
+-- what the open fetch confirms, where it ends so
+abbrev pub confirmed_of : World → Outcome → Begun Fetching → Option Kept
+confirmed_of w outcome begun = confirmed (is_hit w.delivering begun) w.delivering.kept begun.what outcome
+
 abbrev pub fetch_end_reply : World → ℕ → Outcome → Option (Begun Fetching) → Reply
 fetch_end_reply w fetch outcome None = reply.NotOpen fetch
-fetch_end_reply w fetch outcome (Some begun) = reply.Ended (is_some (gained_of w outcome begun))
+fetch_end_reply w fetch outcome (Some begun) =
+    reply.Ended (is_some (gained_of w outcome begun) || is_some (confirmed_of w outcome begun))
 
 abbrev pub finish_reply : World → ℕ → Bool → Reply
 finish_reply w delivery found = if found then reply.Logged (w.counts.logged + 1) else reply.NotOpen delivery

@@ -48,13 +48,17 @@ pub record Start : Type 0 where
   pub kind : TriggerKind
   pub selection : Selection
 
--- a kept object: what a fetch brought for its key
+-- a kept object: what a fetch brought for its key, which is the origin, and the fetch that brought it or confirmed it last;
+-- it is doubtful where it is to be confirmed before it is given again
 pub record Kept : Type 0 where
   pub fetch : ℕ
+  pub origin : ℕ
   pub key : KeyParts
   pub ccid : Option (List ℕ)
   pub kind : List ℕ
+  pub tag : Option (List ℕ)
   pub body : List ℕ
+  pub doubtful : Bool
 
 -- a row of the record: the position of its Finish, that of its Admit, its delivery and what it says
 pub record Recorded : Type 0 where

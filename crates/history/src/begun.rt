@@ -21,9 +21,11 @@ pub struct Admission {
     pub extra: ExtraList,
 }
 
-/// A fetch that was begun: what it brings is kept under this key, and is of this collection (RFC 8006, section 4.2.8).
+/// A fetch that was begun: what it brings is kept under this key, and is of this collection (RFC 8006, section 4.2.8). Where
+/// it asks whether what is kept is unchanged, the base is the fetch that this is kept of.
 #[derive(Drop)]
 pub struct Fetching {
     pub key: Key,
     pub ccid: Option<Text>,
+    pub base: Option<u64>,
 }

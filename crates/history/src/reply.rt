@@ -3,6 +3,7 @@
 use cdni_base::{Body, EndpointList, Moment, Rule, Target, Text, TypeName};
 use trigger_command::IdList;
 use trigger_status::{Filter, Job, JobStatus, JobStatusList};
+use upstream_gate::Tag;
 
 /// The reply to a call. Deliveries, fetches, refreshes, triggers, rows and log files are numbered from 1.
 #[derive(Drop)]
@@ -23,6 +24,17 @@ pub enum Reply {
     Miss {
         delivery: u64,
         fetch: u64,
+        plan: EndpointList,
+    },
+    /// This delivery waits for this fetch, which asks these endpoints in order whether what was kept of the base, and has this
+    /// tag, is unchanged.
+    Check {
+        delivery: u64,
+        fetch: u64,
+        base: u64,
+        kind: TypeName,
+        tag: Tag,
+        body: Body,
         plan: EndpointList,
     },
     /// A limit is reached.

@@ -34,7 +34,7 @@ answers_memory (Ok text) is = absurd (err_is_ok link_fault.Memory text is)
 answers_memory (Err fault) (inl is) = sym is
 answers_memory (Err fault) (inr is) = ap Err is
 
-pub fetched : (target : Target) (made : List Exchange) (ended : Outcome) (result : Result (List ℕ) LinkFault) → Asked (origin_form target) (endpoint_of target ∷ []) made ended → Answers (brought ended) result
+pub fetched : (target : Target) (made : List Exchange) (ended : Outcome) (result : Result (List ℕ) LinkFault) → Asked (origin_form target) None (endpoint_of target ∷ []) made ended → Answers (brought ended) result
     → Fetches target made result
 fetched target [] ended result asked is = answers_memory result (subst (λ o. Answers (brought o) result) asked is)
 fetched target (exchange ∷ []) ended result (ask, inl ends) is = (ask, subst (λ o. Answers (brought o) result) (sym ends.1) is)

@@ -58,7 +58,7 @@ Comes reading after (Err fault) = (reading ≡ Err fault) ⊎ (fault ≡ link_fa
 -- the document was asked for once at its endpoint, and this is what it brought; or not, for want of memory
 abbrev pub Fetches : Target → List Exchange → Result (List ℕ) LinkFault → Type 0
 Fetches target [] result = result ≡ Err link_fault.Memory
-Fetches target (exchange ∷ []) result = IsAskOf (origin_form target) (endpoint_of target) exchange
+Fetches target (exchange ∷ []) result = IsAskOf (origin_form target) None (endpoint_of target) exchange
     × Answers (brought exchange.outcome) result
 Fetches target (exchange ∷ other ∷ others) result = ⊥
 

@@ -78,6 +78,7 @@ step_of state = step_by state (next_of state.opened)
 -- the text of a document of status 200
 abbrev pub brought : Outcome → Result (List ℕ) LinkFault
 brought (outcome.Got got) = if got.status == 200 then Ok got.body else Err (link_fault.Fetch (outcome.Got got))
+brought outcome.Unchanged = Err (link_fault.Fetch outcome.Unchanged)
 brought (outcome.Refused status) = Err (link_fault.Fetch (outcome.Refused status))
 brought (outcome.TooLong size) = Err (link_fault.Fetch (outcome.TooLong size))
 brought (outcome.Malformed taken) = Err (link_fault.Fetch (outcome.Malformed taken))
@@ -143,7 +144,7 @@ Brings (Err fault) Goes Fails = Fails fault
 -- this exchange asks for the document of the Link at its endpoint; it goes on with what the outcome brings, or fails
 abbrev pub Takes : Step → Exchange → (State → Type 0) → (LinkFault → Type 0) → Type 0
 Takes (over end) exchange Goes Fails = ⊥
-Takes (asks link state) exchange Goes Fails = IsAskOf (origin_form link.target) (endpoint_of link.target) exchange
+Takes (asks link state) exchange Goes Fails = IsAskOf (origin_form link.target) None (endpoint_of link.target) exchange
     × Brings (after_outcome state link exchange.outcome) Goes Fails
 
 -- from this step on these exchanges are made, in order and no others, and so it ends; it may end early for want of memory

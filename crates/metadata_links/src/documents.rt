@@ -105,7 +105,7 @@ fn fetch<G: Gate>(alloc: Global, gate: &mut G, target: &Target) -> Result<Body, 
     ensures failed { result ≡ Err (LinkFault.Fetch Outcome.Failed) → Rose (G.faults gate.old) (G.faults gate.new) }
 {
     let plan = plan_of(alloc, target)?;
-    brought(alloc, fetch_plan(alloc, gate, &plan, target))
+    brought(alloc, fetch_plan(alloc, gate, &plan, target, None))
 }
 
 // the endpoint of the target alone
@@ -141,6 +141,7 @@ fn brought(alloc: Global, outcome: Outcome) -> Result<Body, LinkFault>
             }
         }
         Outcome::Memory => Err(LinkFault::Memory),
+        Outcome::Unchanged => Err(LinkFault::Fetch(Outcome::Unchanged)),
         Outcome::Refused { status } => Err(LinkFault::Fetch(Outcome::Refused { status })),
         Outcome::TooLong { length } => Err(LinkFault::Fetch(Outcome::TooLong { length })),
         Outcome::Malformed { taken } => Err(LinkFault::Fetch(Outcome::Malformed { taken })),

@@ -1,2 +1,3 @@
 pub mod MemoryGateLemmas
 pub mod PlanLemmas
+pub mod TagLemmas

@@ -7,17 +7,17 @@ use Rattle.edge_base.specs.Clock.{Grows}
 use Rattle.upstream_gate.specs.declared.ask.Ask.{Ask}
 use Rattle.upstream_gate.specs.declared.outcome.Outcome.{Outcome}
 use Rattle.upstream_gate.specs.declared.outcome.Outcome.TheVariants.{Failed}
-use Rattle.upstream_gate.specs.MemoryGate.{next_outcome, exchanged, told_if, or_memory}
+use Rattle.upstream_gate.specs.MemoryGate.{answer_to, next_outcome, exchanged, told_if, or_memory}
 
 -- the next outcome is that at the place
-pub next_at : (outcomes : List Outcome) (place : ℕ) (outcome : Outcome) → slice_get outcomes place ≡ Some outcome → next_outcome (drop place outcomes) ≡ outcome
-next_at [] place outcome is = absurd (cc)
-next_at (first ∷ outcomes) zero outcome is = cc
-next_at (first ∷ outcomes) (suc place) outcome is = next_at outcomes place outcome is
+pub next_at : (ask : Ask) (outcomes : List Outcome) (place : ℕ) (outcome : Outcome) → slice_get outcomes place ≡ Some outcome → next_outcome ask (drop place outcomes) ≡ answer_to ask outcome
+next_at ask [] place outcome is = absurd (cc)
+next_at ask (first ∷ outcomes) zero outcome is = cc
+next_at ask (first ∷ outcomes) (suc place) outcome is = next_at ask outcomes place outcome is
 
 -- one ask more is told with the next outcome
 exchanged_more : (outcomes : List Outcome) (asks : List Ask) (ask : Ask) (given : ℕ) → given ≡ min (length asks) (length outcomes)
-    → exchanged outcomes (asks ++ ask ∷ []) ≡ exchanged outcomes asks ++ record { ask = ask; outcome = next_outcome (drop given outcomes) } ∷ []
+    → exchanged outcomes (asks ++ ask ∷ []) ≡ exchanged outcomes asks ++ record { ask = ask; outcome = next_outcome ask (drop given outcomes) } ∷ []
 exchanged_more [] [] ask given is = let none : given ≡ 0 = omega (arith, is) in rw none refl
 exchanged_more (outcome ∷ outcomes) [] ask given is = let none : given ≡ 0 = omega (arith, is) in rw none refl
 exchanged_more [] (first ∷ asks) ask given is =
@@ -25,13 +25,13 @@ exchanged_more [] (first ∷ asks) ask given is =
     ap (λ rest. record { ask = first; outcome = Failed } ∷ rest) (exchanged_more [] asks ask given (omega (arith, none)))
 exchanged_more (outcome ∷ outcomes) (first ∷ asks) ask given is =
     let one : given ≡ suc (given - 1) = omega (arith, is) in
-    ap (λ rest. record { ask = first; outcome = outcome } ∷ rest) (exchanged_more outcomes asks ask (given - 1) (omega (arith, is)))
-    ∙ ap (λ (n : ℕ). record { ask = first; outcome = outcome } ∷ (exchanged outcomes asks ++ record { ask = ask; outcome = next_outcome (drop n (outcome ∷ outcomes)) } ∷ [])) (sym one)
+    ap (λ rest. record { ask = first; outcome = answer_to first outcome } ∷ rest) (exchanged_more outcomes asks ask (given - 1) (omega (arith, is)))
+    ∙ ap (λ (n : ℕ). record { ask = first; outcome = answer_to first outcome } ∷ (exchanged outcomes asks ++ record { ask = ask; outcome = next_outcome ask (drop n (outcome ∷ outcomes)) } ∷ [])) (sym one)
 
 -- what is told grows by the exchange, or nothing is told any more
 pub told_more : (outcomes : List Outcome) (asks later : List Ask) (ask : Ask) (given : ℕ) (outcome : Outcome) (telling still : Bool)
     → (telling ≡ true → given ≡ min (length asks) (length outcomes))
-    → (still ≡ true → (telling ≡ true) × (later ≡ asks ++ ask ∷ []) × (outcome ≡ next_outcome (drop given outcomes)))
+    → (still ≡ true → (telling ≡ true) × (later ≡ asks ++ ask ∷ []) × (outcome ≡ next_outcome ask (drop given outcomes)))
     → Grows (told_if telling (exchanged outcomes asks)) (told_if still (exchanged outcomes later)) (record { ask = ask; outcome = outcome } ∷ [])
 told_more outcomes asks later ask given outcome false false step grown = tt
 told_more outcomes asks later ask given outcome false true step grown = absurd (true≢false (sym (grown refl).0))

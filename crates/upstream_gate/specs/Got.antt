@@ -1,11 +1,15 @@
 -- What an origin gave.
 use Rattle.std.specs.Prelude.{ℕ, ◌≤◌, Bool, IsTrue, List, length, ◌==◌, ◌||◌}
+use Rattle.std.specs.declared.option.Option.{Option}
 use Rattle.upstream_gate.specs.declared.got.TheConstants.{BODY_MAX}
 
--- a status (RFC 9110, section 15), a content type, empty where there is none, and a body
+-- a status (RFC 9110, section 15), a content type, empty where there is none, an entity tag, whether it may be stored (RFC
+-- 9111, section 5.2.2.5), and a body
 pub record GotParts : Type 0 where
   pub status : ℕ
   pub kind : List ℕ
+  pub tag : Option (List ℕ)
+  pub store : Bool
   pub body : List ℕ
 
 -- OK, Not Found and Gone (RFC 9110, sections 15.3.1, 15.5.5 and 15.5.11)

@@ -1,9 +1,11 @@
 //! Content that an origin gave.
 
 ghost use Rattle.std.specs.Prelude.{◌≡◌, ◌≤◌, ◌↔◌, length, IfOk, IfSome, IsSome, IsTrue};
+ghost use Rattle.std.specs.Option.{option_map};
 ghost use Rattle.upstream_gate.specs.Got.{GotParts, is_got_status, IsGot};
 ghost use Rattle.upstream_gate.specs.declared.got.TheConstants.{BODY_MAX};
 
+use crate::tag::{Tag, copy_of};
 use cdni_base::{Body, TypeName};
 use std::alloc::{AllocError, Global};
 use std::marker::Model;
@@ -11,12 +13,15 @@ use std::marker::Model;
 /// The most bytes of a body.
 pub const BODY_MAX: usize = 16777216;
 
-/// What an origin gave: the status 200, 404 or 410 (RFC 9110, section 15), the content type, empty where there is none,
-/// and a body of at most 16,777,216 bytes. It is seen as its three parts.
+/// What an origin gave: the status 200, 404 or 410 (RFC 9110, section 15), the content type, empty where there is none, the
+/// entity tag, where there is one, whether it may be stored (RFC 9111, section 5.2.2.5), and a body of at most 16,777,216
+/// bytes. It is seen as its parts.
 #[derive(Drop)]
 pub struct Got {
     status: u16,
     kind: TypeName,
+    tag: Option<Tag>,
+    store: bool,
     body: Body,
 }
 
@@ -25,20 +30,50 @@ impl Model for Got {
 
     ghost Value = { GotParts };
 
-    ghost view = { λ g. record { status = g.status; kind = g.kind; body = g.body } };
+    ghost view = { λ g. record { status = g.status; kind = g.kind; tag = g.tag; store = g.store; body = g.body } };
 
-    ghost invariant = { λ g. IsGot (record { status = g.status; kind = g.kind; body = g.body }) };
+    ghost invariant = { λ g. IsGot (record {
+      status = g.status;
+      kind = g.kind;
+      tag = g.tag;
+      store = g.store;
+      body = g.body;
+    }) };
 }
 
 impl Got {
     /// What was given, or `None` exactly where the status is none of 200, 404 and 410, or the body has more than
     /// 16,777,216 bytes.
-    pub fn new(status: u16, kind: TypeName, body: Body) -> Option<Got>
-        ensures parts { IfSome result (λ got. got ≡ record { status = status; kind = kind; body = body }) }
-        ensures fits { IsSome result ↔ IsGot (record { status = status; kind = kind; body = body }) }
+    pub fn new(
+        status: u16,
+        kind: TypeName,
+        tag: Option<Tag>,
+        store: bool,
+        body: Body,
+    ) -> Option<Got>
+        ensures parts { IfSome result (λ got. got ≡ record {
+          status = status;
+          kind = kind;
+          tag = tag;
+          store = store;
+          body = body;
+        }) }
+        ensures fits { IsSome result ↔ IsGot (record {
+          status = status;
+          kind = kind;
+          tag = tag;
+          store = store;
+          body = body;
+        }) }
     {
         if is_got_status(status) && body.bytes().len() <= BODY_MAX {
-            Some(Got { status, kind, body })
+            Some(Got {
+                status,
+                kind,
+                tag,
+                store,
+                body,
+            })
         } else {
             None
         }
@@ -57,6 +92,20 @@ impl Got {
         ensures { result.now ≡ self.now.kind }
     {
         &self.kind
+    }
+
+    /// The entity tag, where there is one.
+    pub fn tag(&self) -> Option<&Tag>
+        ensures { option_map (λ tag. tag.now) result ≡ self.now.tag }
+    {
+        self.tag.as_ref()
+    }
+
+    /// Whether it may be stored.
+    pub fn store(&self) -> bool
+        ensures { result ≡ self.now.store }
+    {
+        self.store
     }
 
     /// The body, of at most 16,777,216 bytes.
@@ -85,6 +134,8 @@ impl Got {
         Ok(Got {
             status: self.status,
             kind: self.kind.clone()?,
+            tag: copy_of(self.tag.as_ref())?,
+            store: self.store,
             body: self.body.share(alloc)?,
         })
     }

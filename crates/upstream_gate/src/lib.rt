@@ -8,6 +8,7 @@ mod got;
 mod memory_gate;
 mod outcome;
 mod plan;
+mod tag;
 
 pub use ask::Ask;
 pub use gate::Gate;
@@ -15,3 +16,4 @@ pub use got::{BODY_MAX, Got};
 pub use memory_gate::MemoryGate;
 pub use outcome::{Outcome, OutcomeList};
 pub use plan::fetch_plan;
+pub use tag::Tag;

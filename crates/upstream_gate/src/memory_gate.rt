@@ -2,7 +2,7 @@
 
 ghost use Rattle.std.specs.Prelude.{◌≡◌, ◌≤◌, ◌+◌, ◌&&◌, true, [], ◌∷◌, ◌++◌, min, drop, IfOk, IsTrue, if◌then◌else◌};
 ghost use Rattle.edge_base.specs.Causes.{next_count};
-ghost use Rattle.upstream_gate.specs.MemoryGate.{next_outcome, or_memory};
+ghost use Rattle.upstream_gate.specs.MemoryGate.{answer_to, next_outcome, or_memory};
 
 use crate::ask::Ask;
 use crate::gate::Gate;
@@ -10,7 +10,8 @@ use crate::outcome::{Outcome, OutcomeList};
 use std::alloc::{AllocError, Global};
 use std::marker::Model;
 
-/// A gate that answers given outcomes in order, and fails after them. Each failure counts a fault. It tells its
+/// A gate that answers given outcomes in order, and fails after them, and where the next one says that nothing changed and the
+/// ask has no tag. Each failure counts a fault. It tells its
 /// exchanges, unless it finds no memory to remember one: from then on it tells no more.
 #[derive(Drop)]
 pub struct MemoryGate {
@@ -75,7 +76,7 @@ impl MemoryGate {
 }
 
 impl Gate for MemoryGate {
-    ghost use Rattle.std.specs.Prelude.{◌≡◌, [], ◌∷◌, length};
+    ghost use Rattle.std.specs.Prelude.{◌≡◌, [], ◌∷◌, length, IsSome};
     ghost use Rattle.edge_base.specs.Clock.{Grows};
     ghost use Rattle.upstream_gate.specs.MemoryGate.{told_of, IsNext, next_place};
     ghost use Rattle.upstream_gate.specs.Outcome.{HasGateCause};
@@ -86,13 +87,14 @@ impl Gate for MemoryGate {
 
     /// The next outcome, or want of memory to share it; and a failure after the last.
     fn fetch(&mut self, alloc: Global, ask: &Ask) -> Outcome
-        ensures answer { IsNext self.old result }
+        ensures answer { IsNext self.old ask.now result }
         ensures list { self.new.outcomes ≡ self.old.outcomes }
         ensures given { self.new.given ≡ next_place self.old }
         ensures told { Grows (told_of self.old) (told_of self.new) (record { ask = ask.now; outcome = result } ∷ []) }
         ensures cause { HasGateCause self.old.faults self.new.faults result }
+        ensures unchanged { result ≡ Outcome.Unchanged → IsSome ask.now.tag }
     {
-        let shared = shared_at(alloc, &self.outcomes, self.given);
+        let shared = shared_at(alloc, &self.outcomes, self.given, ask);
         self.given = place_behind(self.given, self.outcomes.len());
         let noted = note(alloc, &mut self.asks, ask);
         self.telling = are_all(self.telling, noted, shared.is_ok());
@@ -137,22 +139,37 @@ fn or_memory(shared: Result<Outcome, AllocError>) -> Outcome
     }
 }
 
-// the outcome at this place of the list, shared, or a failure past it
-fn shared_at(alloc: Global, outcomes: &OutcomeList, place: usize) -> Result<Outcome, AllocError>
-    ensures { IfOk result (λ outcome. outcome ≡ next_outcome (drop place outcomes.now)) }
+// the outcome at this place of the list as the answer to this ask, shared, or a failure past it
+fn shared_at(
+    alloc: Global,
+    outcomes: &OutcomeList,
+    place: usize,
+    ask: &Ask,
+) -> Result<Outcome, AllocError>
+    ensures { IfOk result (λ outcome. outcome ≡ next_outcome ask.now (drop place outcomes.now)) }
 {
     if place < outcomes.len() {
-        outcomes.at(place).share(alloc)
+        answer_to(alloc, ask, outcomes.at(place))
     } else {
         Ok(Outcome::Failed)
     }
+}
+
+// the outcome, shared, as the answer to this ask
+fn answer_to(alloc: Global, ask: &Ask, outcome: &Outcome) -> Result<Outcome, AllocError>
+    ensures { IfOk result (λ answer. answer ≡ answer_to ask.now outcome.now) }
+{
+    if outcome.is_unchanged() && ask.tag.is_none() {
+        return Ok(Outcome::Failed);
+    }
+    outcome.share(alloc)
 }
 
 // remembers an ask; false for want of memory
 fn note(alloc: Global, asks: &mut Vec<Ask>, ask: &Ask) -> bool
     ensures { IsTrue result → asks.new.items ≡ asks.old.items ++ ask.now ∷ [] }
 {
-    match Ask::of(alloc, &ask.endpoint, &ask.target) {
+    match Ask::of(alloc, &ask.endpoint, &ask.target, ask.tag.as_ref()) {
         Ok(copy) => asks.push(copy).is_ok(),
         Err(_) => false,
     }

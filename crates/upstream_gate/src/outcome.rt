@@ -1,7 +1,7 @@
 //! How an ask ended.
 
 ghost use Rattle.std.specs.Prelude.{◌≡◌, ◌↔◌, IfOk, IsTrue};
-ghost use Rattle.upstream_gate.specs.Outcome.{is_last, is_failed};
+ghost use Rattle.upstream_gate.specs.Outcome.{is_last, is_failed, is_unchanged};
 
 use crate::got::Got;
 use cdni_base::Listing;
@@ -12,6 +12,8 @@ use std::alloc::{AllocError, Global};
 pub enum Outcome {
     /// Content, or that there is none.
     Got(Got),
+    /// What has the tag that was sent is unchanged (RFC 9110, section 15.4.5).
+    Unchanged,
     /// Another status, or a content coding other than identity.
     Refused { status: u16 },
     /// A body above the limit: its announced length in bytes, or one more than the limit.
@@ -39,6 +41,7 @@ impl Outcome {
     {
         Ok(match self {
             Outcome::Got(got) => Outcome::Got(got.share(alloc)?),
+            Outcome::Unchanged => Outcome::Unchanged,
             Outcome::Refused { status } => Outcome::Refused { status: *status },
             Outcome::TooLong { length } => Outcome::TooLong { length: *length },
             Outcome::Malformed { taken } => Outcome::Malformed { taken: *taken },
@@ -52,7 +55,14 @@ impl Outcome {
     pub(crate) fn is_last(&self) -> bool
         ensures { result ≡ is_last self.now }
     {
-        matches!(self, Outcome::Got(_) | Outcome::Memory)
+        matches!(self, Outcome::Got(_) | Outcome::Unchanged | Outcome::Memory)
+    }
+
+    // whether it says that nothing changed
+    pub(crate) fn is_unchanged(&self) -> bool
+        ensures { result ≡ is_unchanged self.now }
+    {
+        matches!(self, Outcome::Unchanged)
     }
 
     // whether the ask failed

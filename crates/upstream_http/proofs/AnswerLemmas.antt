@@ -1,18 +1,21 @@
 -- What a body makes of an answer.
-use Rattle.std.proofs.Common.{◌≡◌, ℕ, ◌+◌, ◌<◌, ◌≤◌, true, List, [], ◌++◌, length, refl, sym, ◌∙◌, ap, subst, arith, inl, inr, Option, append-nil, length-append}
+use Rattle.std.proofs.Common.{◌≡◌, ℕ, ◌+◌, ◌<◌, ◌≤◌, Bool, true, List, [], ◌++◌, length, refl, sym, ◌∙◌, ap, subst, arith, inl, inr, Option, append-nil, length-append, codes, ◌==◌}
 use Rattle.std.specs.Io.KnownBytes.{IsAtEnd, Keeps}
 use Rattle.std.proofs.KnownBytes.{Consumes-nil, Consumes-kept}
-use Rattle.std.proofs.lemmas.Bool.{false≢true, cases_lt}
+use Rattle.std.proofs.lemmas.Bool.{false≢true, cases_lt, and_parts, eqb-true}
 use Rattle.http_wire.specs.Moves.{Moves, IsToCome}
 use Rattle.http_wire.specs.Body.{capped, IsBodyOrFault, IsTooLargeOrFault}
 use Rattle.http_wire.specs.Response.{ResponseParts}
 use Rattle.http_wire.specs.declared.body.BodyRead.{BodyRead}
 use Rattle.http_wire.specs.declared.body.BodyRead.TheVariants as body
 use Rattle.http_wire.proofs.FoundLemmas.{still_left}
+use Rattle.field_list.specs.List.{items_of}
+use Rattle.upstream_gate.specs.Got.{is_got_status}
 use Rattle.upstream_gate.specs.declared.got.TheConstants.{BODY_MAX}
 use Rattle.upstream_gate.specs.declared.outcome.Outcome.{Outcome}
-use Rattle.upstream_http.specs.Fields.{framing_of, kind_of}
-use Rattle.upstream_http.specs.Answer.{is_wanted, got_of, HasBody, HasTooMuch, HasBadBody, HasCutBody, Rests, HasTaken, Ends, ReadsFramed, FindsFramed, Becomes, FindsEnd, SettlesBody, IsGotOrFault, IsTooLongOrFault, IsMalformedOrFault, IsCutOrFault}
+use Rattle.upstream_gate.specs.declared.outcome.Outcome.TheVariants as outcome
+use Rattle.upstream_http.specs.Fields.{are_identity, framing_of}
+use Rattle.upstream_http.specs.Answer.{is_confirming, is_wanted, got_of, HasBody, HasTooMuch, HasBadBody, HasCutBody, Rests, HasTaken, Ends, ReadsFramed, FindsFramed, Becomes, FindsEnd, Settles, SettlesBody, IsGotOrFault, IsTooLongOrFault, IsMalformedOrFault, IsCutOrFault}
 use Rattle.upstream_http.specs.declared.fields.Framing.{Framing}
 use Rattle.upstream_http.specs.declared.fields.Framing.TheVariants as framing
 
@@ -100,38 +103,38 @@ framed_came limit (framing.Length count) old new before after result short reads
 framed_came limit framing.ToEnd old new before after result short reads = to_end_came limit old new before after result short reads
 framed_came limit framing.Wrong old new before after result short reads = wrong_came limit old new before after result reads
 
-tells_rests : (limit so_far : ℕ) (ended : Type 0) (head : ResponseParts) (came : List ℕ) (read : BodyRead) (result : Outcome) → is_wanted head ≡ true
-    → Tells limit ended (framing_of head.headers) came read → Becomes so_far head.status (kind_of head.headers) read result
-    → Rests limit ended head came result × HasTaken (so_far + length came) result
-tells_rests limit so_far ended head came (body.Body content) result wanted tells becomes =
-    let P : Outcome → Type 0 = λ r. Rests limit ended head came r × HasTaken (so_far + length came) r in
+tells_rests : (limit so_far : ℕ) (tagged : Bool) (ended : Type 0) (head : ResponseParts) (came : List ℕ) (read : BodyRead) (result : Outcome) → is_wanted head ≡ true
+    → Tells limit ended (framing_of head.headers) came read → Becomes so_far head read result
+    → Rests limit tagged ended head came result × HasTaken (so_far + length came) result
+tells_rests limit so_far tagged ended head came (body.Body content) result wanted tells becomes =
+    let P : Outcome → Type 0 = λ r. Rests limit tagged ended head came r × HasTaken (so_far + length came) r in
     elim becomes [
       | inl got ↦ subst P (sym got) ((wanted, refl, tells), tt)
       | inr memory ↦ subst P (sym memory) (tt, tt)
     ]
-tells_rests limit so_far ended head came (body.TooLarge len) result wanted tells becomes =
-    subst (λ (r : Outcome). Rests limit ended head came r × HasTaken (so_far + length came) r) (sym becomes) ((wanted, tells), tt)
-tells_rests limit so_far ended head came (body.BadLength taken) result wanted tells becomes =
-    subst (λ (r : Outcome). Rests limit ended head came r × HasTaken (so_far + length came) r) (sym becomes) ((wanted, tells.0), omega (arith, tells.1))
-tells_rests limit so_far ended head came (body.CutShort taken) result wanted tells becomes =
-    subst (λ (r : Outcome). Rests limit ended head came r × HasTaken (so_far + length came) r) (sym becomes) ((wanted, tells.0, tells.1), omega (arith, tells.2))
-tells_rests limit so_far ended head came body.ReadFault result wanted tells becomes =
-    subst (λ (r : Outcome). Rests limit ended head came r × HasTaken (so_far + length came) r) (sym becomes) (tt, tt)
-tells_rests limit so_far ended head came body.Memory result wanted tells becomes =
-    subst (λ (r : Outcome). Rests limit ended head came r × HasTaken (so_far + length came) r) (sym becomes) (tt, tt)
-tells_rests limit so_far ended head came body.Coded result wanted tells becomes = absurd tells
+tells_rests limit so_far tagged ended head came (body.TooLarge len) result wanted tells becomes =
+    subst (λ (r : Outcome). Rests limit tagged ended head came r × HasTaken (so_far + length came) r) (sym becomes) ((wanted, tells), tt)
+tells_rests limit so_far tagged ended head came (body.BadLength taken) result wanted tells becomes =
+    subst (λ (r : Outcome). Rests limit tagged ended head came r × HasTaken (so_far + length came) r) (sym becomes) ((wanted, tells.0), omega (arith, tells.1))
+tells_rests limit so_far tagged ended head came (body.CutShort taken) result wanted tells becomes =
+    subst (λ (r : Outcome). Rests limit tagged ended head came r × HasTaken (so_far + length came) r) (sym becomes) ((wanted, tells.0, tells.1), omega (arith, tells.2))
+tells_rests limit so_far tagged ended head came body.ReadFault result wanted tells becomes =
+    subst (λ (r : Outcome). Rests limit tagged ended head came r × HasTaken (so_far + length came) r) (sym becomes) (tt, tt)
+tells_rests limit so_far tagged ended head came body.Memory result wanted tells becomes =
+    subst (λ (r : Outcome). Rests limit tagged ended head came r × HasTaken (so_far + length came) r) (sym becomes) (tt, tt)
+tells_rests limit so_far tagged ended head came body.Coded result wanted tells becomes = absurd tells
 
 -- the outcome by the bytes that came
-pub ends_framed : (limit so_far : ℕ) (head : ResponseParts) (f : Framing) (old new : Option (List ℕ)) (before after : List ℕ) (read : BodyRead) (result : Outcome)
+pub ends_framed : (limit so_far : ℕ) (tagged : Bool) (head : ResponseParts) (f : Framing) (old new : Option (List ℕ)) (before after : List ℕ) (read : BodyRead) (result : Outcome)
     → f ≡ framing_of head.headers → is_wanted head ≡ true → limit ≤ BODY_MAX → ReadsFramed limit f old new before after read
-    → Becomes so_far head.status (kind_of head.headers) read result → Ends limit so_far head old new before result
-ends_framed limit so_far head f old new before after read result is wanted short reads becomes =
+    → Becomes so_far head read result → Ends limit so_far tagged head old new before result
+ends_framed limit so_far tagged head f old new before after read result is wanted short reads becomes =
     let c = framed_came limit f old new before after read short reads in
-    let r = tells_rests limit so_far (IsAtEnd new) head c.0 read result wanted (subst (λ (g : Framing). Tells limit (IsAtEnd new) g c.0 read) is c.2) becomes in
+    let r = tells_rests limit so_far tagged (IsAtEnd new) head c.0 read result wanted (subst (λ (g : Framing). Tells limit (IsAtEnd new) g c.0 read) is c.2) becomes in
     (c.0, c.1, r.0, r.1)
 
 got_or_fault : (so_far : ℕ) (head : ResponseParts) (content : List ℕ) (read : BodyRead) (result : Outcome) → IsBodyOrFault content read
-    → Becomes so_far head.status (kind_of head.headers) read result → IsGotOrFault (got_of head content) result
+    → Becomes so_far head read result → IsGotOrFault (got_of head content) result
 got_or_fault so_far head content (body.Body other) result is becomes = elim becomes [
   | inl got ↦ subst (IsGotOrFault (got_of head content)) (sym got) (ap (got_of head) is)
   | inr memory ↦ subst (IsGotOrFault (got_of head content)) (sym memory) tt
@@ -153,15 +156,15 @@ LenIs told body.ReadFault = Unit {0}
 LenIs told body.Memory = Unit {0}
 LenIs told body.Coded = Unit {0}
 
-too_long_or_fault : (so_far told status : ℕ) (kind : List ℕ) (read : BodyRead) (result : Outcome) → IsTooLargeOrFault read → LenIs told read
-    → Becomes so_far status kind read result → IsTooLongOrFault told result
-too_long_or_fault so_far told status kind (body.TooLarge len) result is len_is becomes = subst (IsTooLongOrFault told) (sym becomes) len_is
-too_long_or_fault so_far told status kind body.ReadFault result is len_is becomes = subst (IsTooLongOrFault told) (sym becomes) tt
-too_long_or_fault so_far told status kind body.Memory result is len_is becomes = subst (IsTooLongOrFault told) (sym becomes) tt
-too_long_or_fault so_far told status kind (body.Body content) result is len_is becomes = absurd is
-too_long_or_fault so_far told status kind body.Coded result is len_is becomes = absurd is
-too_long_or_fault so_far told status kind (body.BadLength taken) result is len_is becomes = absurd is
-too_long_or_fault so_far told status kind (body.CutShort taken) result is len_is becomes = absurd is
+too_long_or_fault : (so_far told : ℕ) (head : ResponseParts) (read : BodyRead) (result : Outcome) → IsTooLargeOrFault read → LenIs told read
+    → Becomes so_far head read result → IsTooLongOrFault told result
+too_long_or_fault so_far told head (body.TooLarge len) result is len_is becomes = subst (IsTooLongOrFault told) (sym becomes) len_is
+too_long_or_fault so_far told head body.ReadFault result is len_is becomes = subst (IsTooLongOrFault told) (sym becomes) tt
+too_long_or_fault so_far told head body.Memory result is len_is becomes = subst (IsTooLongOrFault told) (sym becomes) tt
+too_long_or_fault so_far told head (body.Body content) result is len_is becomes = absurd is
+too_long_or_fault so_far told head body.Coded result is len_is becomes = absurd is
+too_long_or_fault so_far told head (body.BadLength taken) result is len_is becomes = absurd is
+too_long_or_fault so_far told head (body.CutShort taken) result is len_is becomes = absurd is
 
 chunked_len : (limit : ℕ) (old new : Option (List ℕ)) (before after : List ℕ) (read : BodyRead) → limit ≤ BODY_MAX → ReadsFramed limit framing.Chunked old new before after read → LenIs (limit + 1) read
 chunked_len limit old new before after (body.TooLarge len) short reads = omega (arith, reads.3, short)
@@ -182,47 +185,64 @@ to_end_len limit old new before after body.Memory short reads = tt
 to_end_len limit old new before after body.Coded short reads = tt
 
 -- fewer bytes than announced
-cut_or_fault : (so_far limit count status : ℕ) (kind : List ℕ) (old new : Option (List ℕ)) (before after text : List ℕ) (read : BodyRead) (result : Outcome) → count ≤ limit → length text < count → IsToCome old before text
-    → ReadsFramed limit (framing.Length count) old new before after read → Becomes so_far status kind read result → IsCutOrFault result
-cut_or_fault so_far limit count status kind old new before after text (body.Body content) result fits few come reads becomes =
+cut_or_fault : (so_far limit count : ℕ) (head : ResponseParts) (old new : Option (List ℕ)) (before after text : List ℕ) (read : BodyRead) (result : Outcome) → count ≤ limit → length text < count → IsToCome old before text
+    → ReadsFramed limit (framing.Length count) old new before after read → Becomes so_far head read result → IsCutOrFault result
+cut_or_fault so_far limit count head old new before after text (body.Body content) result fits few come reads becomes =
     let r = reads.1 fits in
     let left = still_left old new before after content come.0 r.0 come.1 in
     absurd (omega (arith, few, r.1, ap length (sym come.2 ∙ left.2), length-append content (after ++ left.0)))
-cut_or_fault so_far limit count status kind old new before after text (body.CutShort taken) result fits few come reads becomes = subst IsCutOrFault (sym becomes) tt
-cut_or_fault so_far limit count status kind old new before after text body.ReadFault result fits few come reads becomes = subst IsCutOrFault (sym becomes) tt
-cut_or_fault so_far limit count status kind old new before after text body.Memory result fits few come reads becomes = subst IsCutOrFault (sym becomes) tt
-cut_or_fault so_far limit count status kind old new before after text body.Coded result fits few come reads becomes = absurd (reads.1 fits)
-cut_or_fault so_far limit count status kind old new before after text (body.BadLength taken) result fits few come reads becomes = absurd (reads.1 fits)
-cut_or_fault so_far limit count status kind old new before after text (body.TooLarge len) result fits few come reads becomes = absurd (reads.1 fits)
+cut_or_fault so_far limit count head old new before after text (body.CutShort taken) result fits few come reads becomes = subst IsCutOrFault (sym becomes) tt
+cut_or_fault so_far limit count head old new before after text body.ReadFault result fits few come reads becomes = subst IsCutOrFault (sym becomes) tt
+cut_or_fault so_far limit count head old new before after text body.Memory result fits few come reads becomes = subst IsCutOrFault (sym becomes) tt
+cut_or_fault so_far limit count head old new before after text body.Coded result fits few come reads becomes = absurd (reads.1 fits)
+cut_or_fault so_far limit count head old new before after text (body.BadLength taken) result fits few come reads becomes = absurd (reads.1 fits)
+cut_or_fault so_far limit count head old new before after text (body.TooLarge len) result fits few come reads becomes = absurd (reads.1 fits)
 
 module _ (limit so_far : ℕ) (head : ResponseParts) (old new : Option (List ℕ)) (before after text : List ℕ) (read : BodyRead) (result : Outcome) (short : limit ≤ BODY_MAX) (come : IsToCome old before text)
-    (becomes : Becomes so_far head.status (kind_of head.headers) read result) where
+    (becomes : Becomes so_far head read result) where
   settles_body : (f : Framing) → ReadsFramed limit f old new before after read → FindsFramed limit f old before read → SettlesBody limit head f text result
   settles_body framing.Chunked reads finds = λ bytes content rest is same.
       let found = finds bytes content rest is (come.0, come.1, come.2 ∙ same) in (
         λ fits. got_or_fault so_far head content read result (found.0 fits) becomes,
-        λ large. too_long_or_fault so_far (limit + 1) head.status (kind_of head.headers) read result (found.1 large) (chunked_len limit old new before after read short reads) becomes,
+        λ large. too_long_or_fault so_far (limit + 1) head read result (found.1 large) (chunked_len limit old new before after read short reads) becomes,
       )
   settles_body (framing.Length count) reads finds = (
     λ content rest fits size same. got_or_fault so_far head content read result (finds fits content rest size (come.0, come.1, come.2 ∙ same)) becomes,
     λ large. let r = reads.0 large in
-        too_long_or_fault so_far count head.status (kind_of head.headers) read result (subst IsTooLargeOrFault (sym r.0) tt) (subst (LenIs count) (sym r.0) refl) becomes,
-    λ fits few. cut_or_fault so_far limit count head.status (kind_of head.headers) old new before after text read result fits few come reads becomes,
+        too_long_or_fault so_far count head read result (subst IsTooLargeOrFault (sym r.0) tt) (subst (LenIs count) (sym r.0) refl) becomes,
+    λ fits few. cut_or_fault so_far limit count head old new before after text read result fits few come reads becomes,
   )
   settles_body framing.ToEnd reads finds =
       let found = finds text come in (
         λ fits. got_or_fault so_far head text read result (found.0 fits) becomes,
-        λ large. too_long_or_fault so_far (limit + 1) head.status (kind_of head.headers) read result (found.1 large) (to_end_len limit old new before after read short reads) becomes,
+        λ large. too_long_or_fault so_far (limit + 1) head read result (found.1 large) (to_end_len limit old new before after read short reads) becomes,
       )
   settles_body framing.Wrong reads finds =
-      let malformed = subst (λ (r : BodyRead). Becomes so_far head.status (kind_of head.headers) r result) reads.0 becomes in
+      let malformed = subst (λ (r : BodyRead). Becomes so_far head r result) reads.0 becomes in
       subst IsMalformedOrFault (sym malformed) tt
 
+-- a status of content is no 304
+wanted_unconfirmed : (tagged : Bool) (head : ResponseParts) → is_wanted head ≡ true → is_confirming tagged head ≡ true → ⊥
+wanted_unconfirmed tagged head wanted confirming =
+    let both = and_parts tagged (head.status == 304) confirming in
+    let status = eqb-true head.status 304 both.1 in
+    let content = and_parts (is_got_status head.status) (are_identity (items_of (codes "content-encoding") head.headers)) wanted in
+    false≢true (ap is_got_status (sym status) ∙ content.0)
+
 -- the outcome by the bytes to come
-pub settles : (limit so_far : ℕ) (head : ResponseParts) (f : Framing) (old new : Option (List ℕ)) (before after : List ℕ) (read : BodyRead) (result : Outcome)
+pub settles : (limit so_far : ℕ) (tagged : Bool) (head : ResponseParts) (f : Framing) (old new : Option (List ℕ)) (before after : List ℕ) (read : BodyRead) (result : Outcome)
     → f ≡ framing_of head.headers → is_wanted head ≡ true → limit ≤ BODY_MAX → ReadsFramed limit f old new before after read → FindsFramed limit f old before read
-    → Becomes so_far head.status (kind_of head.headers) read result → FindsEnd limit head old before result
-settles limit so_far head f old new before after read result is wanted short reads finds becomes text come = (
-  λ unwanted. absurd (false≢true (sym unwanted ∙ wanted)),
-  λ w. subst (λ (g : Framing). SettlesBody limit head g text result) is (settles_body limit so_far head old new before after text read result short come becomes f reads finds),
-)
+    → Becomes so_far head read result → FindsEnd limit tagged head old before result
+settles limit so_far tagged head f old new before after read result is wanted short reads finds becomes text come = record {
+  confirming = λ confirming. absurd (wanted_unconfirmed tagged head wanted confirming);
+  unwanted = λ _ unwanted. absurd (false≢true (sym unwanted ∙ wanted));
+  wanted = λ w. subst (λ (g : Framing). SettlesBody limit head g text result) is (settles_body limit so_far head old new before after text read result short come becomes f reads finds);
+}
+
+-- an answer that confirms the tag
+pub confirmed : (limit : ℕ) (tagged : Bool) (head : ResponseParts) (text : List ℕ) → is_confirming tagged head ≡ true → Settles limit tagged head text outcome.Unchanged
+confirmed limit tagged head text confirming = record {
+  confirming = λ _. tt;
+  unwanted = λ other _. absurd (false≢true (sym other ∙ confirming));
+  wanted = λ wanted. absurd (wanted_unconfirmed tagged head wanted confirming);
+}

@@ -1,5 +1,5 @@
 -- The outcome of an exchange (RFC 9112).
-use Rattle.std.specs.Prelude.{◌≡◌, ◌≢◌, ◌⊎◌, ℕ, ◌≤◌, List, ◌++◌, length, take, Some}
+use Rattle.std.specs.Prelude.{◌≡◌, ◌≢◌, ◌⊎◌, ℕ, Bool, ◌≤◌, List, ◌++◌, length, take, Some}
 use Rattle.std.specs.declared.option.Option.{Option}
 use Rattle.std.specs.Io.KnownBytes.{Appends, Consumes, IsAtEnd}
 use Rattle.edge_base.specs.Causes.{Rose}
@@ -24,29 +24,30 @@ StartsWrong ended bytes (outcome.Malformed taken) = IsBadStart bytes
 StartsWrong ended bytes (outcome.Cut taken) = ended × IsCutStart bytes
 StartsWrong ended bytes outcome.Failed = Unit {0}
 StartsWrong ended bytes outcome.Memory = Unit {0}
+StartsWrong ended bytes outcome.Unchanged = ⊥
 StartsWrong ended bytes (outcome.Got got) = ⊥
 StartsWrong ended bytes (outcome.Refused status) = ⊥
 StartsWrong ended bytes (outcome.TooLong told) = ⊥
 
 -- the bytes are the head of a final answer with the interim ones before it, and what came behind makes this outcome
-pub record IsAnswered (limit : ℕ) (ended : Type 0) (bytes : List ℕ) (result : Outcome) : Type 0 where
+pub record IsAnswered (limit : ℕ) (tagged : Bool) (ended : Type 0) (bytes : List ℕ) (result : Outcome) : Type 0 where
   pub front : List ℕ
   pub came : List ℕ
   pub head : ResponseParts
   pub is : bytes ≡ front ++ came
   pub final : IsFinalHead front head
-  pub rests : Rests limit ended head came result
+  pub rests : Rests limit tagged ended head came result
 
--- The outcome of an exchange by the bytes that came of the source. Where it is neither `Failed` nor `Memory`, no bytes
+-- The outcome of an exchange with a tag or without, by the bytes that came of the source. Where it is neither `Failed` nor `Memory`, no bytes
 -- but these decide it, and whether the source is at its end.
-abbrev pub Answers : ℕ → Option (List ℕ) → Option (List ℕ) → Outcome → Type 0
-Answers limit old new result = (bytes : List ℕ) × Consumes old new bytes × HasTaken (length bytes) result
-    × (StartsWrong (IsAtEnd new) bytes result ⊎ IsAnswered limit (IsAtEnd new) bytes result)
+abbrev pub Answers : ℕ → Bool → Option (List ℕ) → Option (List ℕ) → Outcome → Type 0
+Answers limit tagged old new result = (bytes : List ℕ) × Consumes old new bytes × HasTaken (length bytes) result
+    × (StartsWrong (IsAtEnd new) bytes result ⊎ IsAnswered limit tagged (IsAtEnd new) bytes result)
 
 -- where the bytes to come begin with the head of a final answer, the outcome is what those behind it say
-abbrev pub Finds : ℕ → Option (List ℕ) → Outcome → Type 0
-Finds limit old result = (front : List ℕ) (text : List ℕ) (head : ResponseParts) → IsFinalHead front head
-    → old ≡ Some (front ++ text) → Settles limit head text result
+abbrev pub Finds : ℕ → Bool → Option (List ℕ) → Outcome → Type 0
+Finds limit tagged old result = (front : List ℕ) (text : List ℕ) (head : ResponseParts) → IsFinalHead front head
+    → old ≡ Some (front ++ text) → Settles limit tagged head text result
 
 -- the counts of faults did not fall; one of them rose where the exchange failed, and both are the same where it did not
 pub record HasExchangeCause (source source' sink sink' : ℕ) (result : Outcome) : Type 0 where

@@ -1,5 +1,5 @@
 -- What the header fields of an answer tell of its body (RFC 9110, section 8, and RFC 9112, section 6).
-use Rattle.std.specs.Prelude.{ℕ, ◌==◌, ◌||◌, nat_le, Bool, List, [], ◌∷◌, length, codes, bytes_eq, if◌then◌else◌, None, Some}
+use Rattle.std.specs.Prelude.{ℕ, ◌==◌, ◌||◌, nat_le, not, Bool, List, [], ◌∷◌, length, codes, bytes_eq, if◌then◌else◌, None, Some}
 use Rattle.std.specs.List.{fold, list_all}
 use Rattle.std.specs.Str.{str_to_ascii_lowercase}
 use Rattle.std.specs.declared.option.Option.{Option}
@@ -7,6 +7,7 @@ use Rattle.byte_range.specs.Want.{number_of}
 use Rattle.cdni_base.specs.declared.type_name.TheConstants.{TYPE_NAME_MAX}
 use Rattle.http_wire.specs.Fields.{values_of}
 use Rattle.field_list.specs.List.{items_of}
+use Rattle.upstream_gate.specs.Tag.{tag_of}
 use Rattle.upstream_http.specs.declared.fields.Framing.{Framing}
 use Rattle.upstream_http.specs.declared.fields.Framing.TheVariants as framing
 use Rattle.upstream_http.specs.declared.fields.Transfer.{Transfer}
@@ -85,3 +86,21 @@ one_kind (value ∷ other ∷ values) = []
 -- the content type, empty where there is none, where it is repeated and where it has more than 127 bytes
 abbrev pub kind_of : List (List ℕ × List ℕ) → List ℕ
 kind_of headers = one_kind (values_of (codes "content-type") headers)
+
+-- the one value of ETag, where it is an entity tag (RFC 9110, section 8.8.3)
+abbrev pub one_tag : List (List ℕ) → Option (List ℕ)
+one_tag [] = None
+one_tag (value ∷ []) = tag_of value
+one_tag (value ∷ other ∷ values) = None
+
+-- the entity tag: none where there is none, where it is repeated and where it is no tag of at most 127 bytes
+abbrev pub tag_in : List (List ℕ × List ℕ) → Option (List ℕ)
+tag_in headers = one_tag (values_of (codes "etag") headers)
+
+-- a directive that is not `no-store`, in any case (RFC 9111, section 5.2.2.5)
+abbrev pub allows_store : List ℕ → Bool
+allows_store item = not (is_word (codes "no-store") item)
+
+-- each directive of Cache-Control allows that the answer is stored
+abbrev pub is_storable : List (List ℕ × List ℕ) → Bool
+is_storable headers = list_all allows_store (items_of (codes "cache-control") headers)

@@ -21,8 +21,13 @@ request_line target = codes "GET " ++ target ++ codes " HTTP/1.1" ++ line_end
 abbrev pub host_line : Endpoint → List ℕ
 host_line endpoint = codes "Host: " ++ endpoint.host ++ port_text endpoint.port ++ line_end
 
+-- the content is wanted only where it has another tag (RFC 9110, section 13.1.2)
+abbrev pub tag_line : Option (List ℕ) → List ℕ
+tag_line None = []
+tag_line (Some tag) = codes "If-None-Match: " ++ tag ++ line_end
+
 -- No coding of the content is wanted (RFC 9110, section 12.5.3), and the connection closes behind the answer
 -- (section 7.6.1). An empty line ends the head.
 unfoldable pub request_text : Ask → List ℕ
-request_text ask = request_line ask.target ++ host_line ask.endpoint ++ codes "Accept-Encoding: identity" ++ line_end
-    ++ codes "Connection: close" ++ line_end ++ line_end
+request_text ask = request_line ask.target ++ host_line ask.endpoint ++ codes "Accept-Encoding: identity\r\n"
+    ++ tag_line ask.tag ++ codes "Connection: close\r\n\r\n"

@@ -1,46 +1,53 @@
 //! The body of an answer, and the outcome that it makes (RFC 9112, section 6).
 
-ghost use Rattle.std.specs.Prelude.{◌≡◌, ◌≤◌, ◌<◌, true, false, length, IsTrue, min};
+ghost use Rattle.std.specs.Prelude.{◌≡◌, ◌≢◌, ◌≤◌, ◌<◌, true, false, length, IfOk, IsTrue, min};
 ghost use Rattle.http_wire.specs.Body.{HasBodyCause};
 ghost use Rattle.upstream_gate.specs.Got.{is_got_status};
 ghost use Rattle.upstream_gate.specs.Outcome.{HasGateCause};
 ghost use Rattle.upstream_gate.specs.declared.got.TheConstants.{BODY_MAX};
 ghost use Rattle.upstream_http.specs.Fields.{framing_of};
-ghost use Rattle.upstream_http.specs.Answer.{is_wanted, IsWithin, IsGotOrMemory, ReadsFramed, FindsFramed, Becomes, Ends, FindsEnd};
+ghost use Rattle.upstream_http.specs.Answer.{got_of, is_confirming, is_wanted, IsWithin, IsGotOrMemory, ReadsFramed, FindsFramed, Becomes, Ends, FindsEnd};
 
-use crate::fields::{Framing, framing_of, is_identity, kind_of};
-use cdni_base::{Body, Text, TypeName};
+use crate::fields::{Framing, framing_of, is_identity, is_storable, kind_of, tag_in};
+use cdni_base::{Body, Text};
 use edge_base::Source;
 use http_wire::{BodyRead, Inbox, ResponseHead, read_chunked, read_length, read_to_end};
-use std::alloc::Global;
+use std::alloc::{AllocError, Global};
 use upstream_gate::{BODY_MAX, Got, Outcome};
 
-// the outcome of an answer whose head was read, and has so many bytes with those before it
+// the outcome of an answer to an ask with a tag or without, whose head was read, and has so many bytes with those before it
 pub(crate) fn read_rest<S: Source>(
     alloc: Global,
     source: &mut S,
     inbox: &mut Inbox,
     head: &ResponseHead,
+    tagged: bool,
     so_far: u64,
     limit: u64,
 ) -> Outcome
     requires { limit ≤ BODY_MAX }
-    ensures bytes { Ends limit so_far head.now (S.left source.old) (S.left source.new) inbox.old result }
-    ensures found { FindsEnd limit head.now (S.left source.old) inbox.old result }
+    ensures bytes { Ends limit so_far tagged head.now (S.left source.old) (S.left source.new) inbox.old result }
+    ensures found { FindsEnd limit tagged head.now (S.left source.old) inbox.old result }
+    ensures unchanged { result ≡ Outcome.Unchanged → tagged ≡ true }
     ensures cause { HasGateCause (S.faults source.old) (S.faults source.new) result }
 {
+    if is_confirming(tagged, head) {
+        return Outcome::Unchanged;
+    }
     if !is_wanted(head) {
         return Outcome::Refused {
             status: head.status(),
         };
     }
-    match kind_of(alloc, head) {
-        Ok(kind) => {
-            let read = read_framed(alloc, source, inbox, framing_of(head), limit);
-            outcome_of(alloc, so_far, head.status(), kind, read)
-        }
-        Err(_) => Outcome::Memory,
-    }
+    let read = read_framed(alloc, source, inbox, framing_of(head), limit);
+    outcome_of(alloc, so_far, head, read)
+}
+
+// whether this answer to an ask with a tag or without says that what has the tag is unchanged
+fn is_confirming(tagged: bool, head: &ResponseHead) -> bool
+    ensures { result ≡ is_confirming tagged head.now }
+{
+    tagged && head.status() == 304
 }
 
 // whether the body of this answer is read: its status is one that content has, and its coding is identity
@@ -85,13 +92,14 @@ fn read_framed<S: Source>(
 }
 
 // what a body makes of an answer with this head, before which so many bytes came
-fn outcome_of(alloc: Global, so_far: u64, status: u16, kind: TypeName, read: BodyRead) -> Outcome
-    requires status { IsTrue (is_got_status status) }
+fn outcome_of(alloc: Global, so_far: u64, head: &ResponseHead, read: BodyRead) -> Outcome
+    requires status { IsTrue (is_got_status head.now.status) }
     requires short { IsWithin read }
-    ensures { Becomes so_far status kind read result }
+    ensures becomes { Becomes so_far head.now read result }
+    ensures changed { result ≢ Outcome.Unchanged }
 {
     match read {
-        BodyRead::Body(text) => got_of(alloc, status, kind, &text),
+        BodyRead::Body(text) => outcome_with(alloc, head, &text),
         BodyRead::TooLarge { len } => Outcome::TooLong { length: len },
         BodyRead::BadLength { taken } => Outcome::Malformed {
             taken: so_far.saturating_add(taken),
@@ -105,17 +113,30 @@ fn outcome_of(alloc: Global, so_far: u64, status: u16, kind: TypeName, read: Bod
     }
 }
 
-// what was got, or want of memory
-fn got_of(alloc: Global, status: u16, kind: TypeName, text: &Text) -> Outcome
-    requires status { IsTrue (is_got_status status) }
+// what an answer with this head and body is, or want of memory
+fn outcome_with(alloc: Global, head: &ResponseHead, text: &Text) -> Outcome
+    requires status { IsTrue (is_got_status head.now.status) }
     requires short { length text.now ≤ BODY_MAX }
-    ensures { IsGotOrMemory (record { status = status; kind = kind; body = text.now }) result }
+    ensures got { IsGotOrMemory (got_of head.now text.now) result }
+    ensures changed { result ≢ Outcome.Unchanged }
 {
-    match Body::of(alloc, text.bytes()) {
-        Ok(body) => match Got::new(status, kind, body) {
-            Some(got) => Outcome::Got(got),
-            None => unreachable!(),
-        },
+    match got_of(alloc, head, text) {
+        Ok(got) => Outcome::Got(got),
         Err(_) => Outcome::Memory,
+    }
+}
+
+// what an answer with this head and body is
+fn got_of(alloc: Global, head: &ResponseHead, text: &Text) -> Result<Got, AllocError>
+    requires status { IsTrue (is_got_status head.now.status) }
+    requires short { length text.now ≤ BODY_MAX }
+    ensures { IfOk result (λ got. got ≡ got_of head.now text.now) }
+{
+    let kind = kind_of(alloc, head)?;
+    let tag = tag_in(alloc, head)?;
+    let body = Body::of(alloc, text.bytes())?;
+    match Got::new(head.status(), kind, tag, is_storable(head), body) {
+        Some(got) => Ok(got),
+        None => unreachable!(),
     }
 }

@@ -1,6 +1,6 @@
 //! One exchange.
 
-ghost use Rattle.std.specs.Prelude.{◌≡◌, ◌≤◌, [], IfOk, min};
+ghost use Rattle.std.specs.Prelude.{◌≡◌, ◌≤◌, [], true, is_some, IfOk, IsSome, min};
 ghost use Rattle.upstream_gate.specs.Outcome.{HasGateCause};
 ghost use Rattle.upstream_gate.specs.declared.got.TheConstants.{BODY_MAX};
 ghost use Rattle.upstream_http.specs.Request.{request_text};
@@ -23,6 +23,7 @@ use upstream_gate::{Ask, BODY_MAX, Outcome};
 /// 16,777,216.
 ///
 /// * `Got`: an answer with the status 200, 404 or 410 and no coding but identity.
+/// * `Unchanged`: exactly where the ask has a tag and the status is 304; no body is read.
 /// * `Refused`: exactly where the status or the coding is another one; the body is not read.
 /// * `TooLong`: the body is above the limit; with the Content-Length where there is one, else with one byte more than
 ///   the limit.
@@ -38,8 +39,9 @@ pub fn exchange<S: Source, K: Sink>(
     limit: u64,
 ) -> Outcome
     ensures sent { Sends (K.held sink.old) (K.held sink.new) (request_text ask.now) result }
-    ensures answer { Answers (min limit BODY_MAX) (S.left source.old) (S.left source.new) result }
-    ensures found { Finds (min limit BODY_MAX) (S.left source.old) result }
+    ensures answer { Answers (min limit BODY_MAX) (is_some ask.now.tag) (S.left source.old) (S.left source.new) result }
+    ensures found { Finds (min limit BODY_MAX) (is_some ask.now.tag) (S.left source.old) result }
+    ensures unchanged { result ≡ Outcome.Unchanged → IsSome ask.now.tag }
     ensures cause { HasExchangeCause (S.faults source.old) (S.faults source.new) (K.faults sink.old)
         (K.faults sink.new) result }
 {
@@ -48,7 +50,8 @@ pub fn exchange<S: Source, K: Sink>(
             if write_counted(sink, &request).fault {
                 return Outcome::Failed;
             }
-            read_answer(alloc, source, &mut inbox, within(limit))
+            let tagged = ask.tag.is_some();
+            read_answer(alloc, source, &mut inbox, tagged, within(limit))
         }
         Err(_) => Outcome::Memory,
     }
@@ -74,16 +77,25 @@ fn within(limit: u64) -> u64
     }
 }
 
-// reads the answer, whose body has at most so many bytes
-fn read_answer<S: Source>(alloc: Global, source: &mut S, inbox: &mut Inbox, limit: u64) -> Outcome
+// reads the answer to an ask with a tag or without, whose body has at most so many bytes
+fn read_answer<S: Source>(
+    alloc: Global,
+    source: &mut S,
+    inbox: &mut Inbox,
+    tagged: bool,
+    limit: u64,
+) -> Outcome
     requires empty { inbox.old ≡ [] }
     requires within { limit ≤ BODY_MAX }
-    ensures answer { Answers limit (S.left source.old) (S.left source.new) result }
-    ensures found { Finds limit (S.left source.old) result }
+    ensures answer { Answers limit tagged (S.left source.old) (S.left source.new) result }
+    ensures found { Finds limit tagged (S.left source.old) result }
+    ensures unchanged { result ≡ Outcome.Unchanged → tagged ≡ true }
     ensures cause { HasGateCause (S.faults source.old) (S.faults source.new) result }
 {
     match read_final(alloc, source, inbox) {
-        FinalRead::Head(head, so_far) => { read_rest(alloc, source, inbox, &head, so_far, limit) }
+        FinalRead::Head(head, so_far) => {
+            read_rest(alloc, source, inbox, &head, tagged, so_far, limit)
+        }
         FinalRead::Malformed { taken } => Outcome::Malformed { taken },
         FinalRead::Cut { taken } => Outcome::Cut { taken },
         FinalRead::Failed => Outcome::Failed,

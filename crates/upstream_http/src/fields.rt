@@ -2,7 +2,7 @@
 
 ghost use Rattle.std.specs.Prelude.{◌≡◌, IfOk, codes};
 ghost use Rattle.field_list.specs.List.{items_of};
-ghost use Rattle.upstream_http.specs.Fields.{is_word, transfer_of, only_chunked, framing_of, is_no_coding, are_identity, kind_in, kind_of};
+ghost use Rattle.upstream_http.specs.Fields.{allows_store, is_word, transfer_of, only_chunked, framing_of, is_no_coding, are_identity, is_storable, kind_in, kind_of, tag_in};
 
 use byte_range::number_of;
 use cdni_base::{Text, TypeName};
@@ -10,6 +10,7 @@ use field_list::{Told, told_by};
 use http_wire::{Found, ResponseHead};
 use std::alloc::{AllocError, Global};
 use std::marker::Model;
+use upstream_gate::Tag;
 
 // how the end of a body is told
 #[derive(Clone, Copy, Debug, PartialEq, Eq)]
@@ -95,6 +96,34 @@ impl Told for AllIdentity {
     }
 }
 
+// whether all directives so far allow that the answer is stored; it is seen as that
+#[derive(Drop)]
+struct AllAllow {
+    holds: bool,
+}
+
+impl Model for AllAllow {
+    ghost use Rattle.std.specs.Prelude.{Bool};
+
+    ghost Value = { Bool };
+
+    ghost view = { λ all. all.holds };
+}
+
+impl Told for AllAllow {
+    ghost use Rattle.std.specs.Prelude.{◌&&◌};
+    ghost use Rattle.upstream_http.specs.Fields.{allows_store};
+
+    ghost after = { λ told item. told && allows_store item };
+
+    // whether the next one does too
+    fn with(self, item: &[u8]) -> AllAllow {
+        AllAllow {
+            holds: self.holds && allows_store(item),
+        }
+    }
+}
+
 // how the end of the body is told: by Transfer-Encoding, else by Content-Length, else by the end of the source
 pub(crate) fn framing_of(head: &ResponseHead) -> Framing
     ensures { result ≡ framing_of head.now.headers }
@@ -164,4 +193,28 @@ fn kind_in(alloc: Global, value: &[u8]) -> Result<TypeName, AllocError>
         Some(kind) => Ok(kind),
         None => Ok(TypeName(Text::of(alloc, b"")?)),
     }
+}
+
+// the entity tag; none where it is repeated or is none of at most 127 bytes
+pub(crate) fn tag_in(alloc: Global, head: &ResponseHead) -> Result<Option<Tag>, AllocError>
+    ensures { IfOk result (λ tag. tag ≡ tag_in head.now.headers) }
+{
+    match head.value(b"etag") {
+        Found::One(value) => Tag::of(alloc, value),
+        _ => Ok(None),
+    }
+}
+
+// whether each Cache-Control allows that the answer is stored
+pub(crate) fn is_storable(head: &ResponseHead) -> bool
+    ensures { result ≡ is_storable head.now.headers }
+{
+    told_by(head, b"cache-control", AllAllow { holds: true }).holds
+}
+
+// whether this directive is not `no-store`
+fn allows_store(item: &[u8]) -> bool
+    ensures { result ≡ allows_store item.now }
+{
+    !is_word(b"no-store", item)
 }

@@ -1,4 +1,4 @@
-use Rattle.std.proofs.Common.{[], ap, Err, ◌∙◌, subst, List}
+use Rattle.std.proofs.Common.{[], None, ap, Err, ◌∙◌, subst, List}
 use Rattle.std.proofs.lemmas.Result.{err_from_is_err_and}
 use Rattle.targets.specs.declared.endpoint.Endpoint.{Endpoint}
 use Rattle.upstream_gate.specs.Plan.{origin_form, Asked}
@@ -15,5 +15,5 @@ returns-clause-fetches g c =
     let asked = c.fetch_plan.ensures.asked in (
       asked.0,
       asked.1,
-      fetched c.args.target.now asked.0 c.fetch_plan.result c.brought.result (subst (λ (plan : List Endpoint). Asked (origin_form c.args.target.now) plan asked.0 c.fetch_plan.result) c.in_ok-plan.ensures asked.2) c.brought.ensures.brought,
+      fetched c.args.target.now asked.0 c.fetch_plan.result c.brought.result (subst (λ (plan : List Endpoint). Asked (origin_form c.args.target.now) None plan asked.0 c.fetch_plan.result) c.in_ok-plan.ensures asked.2) c.brought.ensures.brought,
     )

@@ -6,7 +6,7 @@ use upstream_gate::{Ask, Gate, Got, MemoryGate, Outcome, OutcomeList, fetch_plan
 
 fn got(alloc: Global, status: u16, body: &[u8]) -> Result<Option<Got>, Fail> {
     match TypeName::of(alloc, b"text/plain")? {
-        Some(kind) => Ok(Got::new(status, kind, Body::of(alloc, body)?)),
+        Some(kind) => Ok(Got::new(status, kind, None, true, Body::of(alloc, body)?)),
         None => Err(Fail::from("a short name")),
     }
 }
@@ -58,7 +58,7 @@ fn content_has_its_parts(rt: HostRuntime) -> Result<(), Fail> {
     assert_eq!(rt; found.status(), 404);
     assert_eq!(rt; found.body().bytes(), b"none".as_slice());
     assert!(rt; found.kind().is(b"text/plain"));
-    let (kind, body) = found.into_parts();
+    let (kind, _tag, body) = found.into_parts();
     assert_eq!(rt; kind.bytes().len(), 10);
     assert_eq!(rt; body.bytes().len(), 4);
     Ok(())
@@ -71,9 +71,9 @@ fn a_plan_is_asked_in_order(rt: HostRuntime) -> Result<(), Fail> {
     let mut plan = EndpointList::new(rt.alloc());
     plan.push(endpoint(rt.alloc(), b"a.example")?)?;
     plan.push(endpoint(rt.alloc(), b"b.example:8080")?)?;
-    let found = fetch_plan(rt.alloc(), &mut gate, &plan, &target);
+    let found = fetch_plan(rt.alloc(), &mut gate, &plan, &target, None);
     assert!(rt; matches!(&found, Outcome::Got(_)));
-    let found = fetch_plan(rt.alloc(), &mut gate, &plan, &target);
+    let found = fetch_plan(rt.alloc(), &mut gate, &plan, &target, None);
     assert!(rt; matches!(&found, Outcome::Failed));
     assert_eq!(rt; gate.faults(), 2);
     Ok(())
@@ -85,6 +85,7 @@ fn a_gate_without_outcomes_fails(rt: HostRuntime) -> Result<(), Fail> {
     let ask = Ask {
         endpoint: endpoint(rt.alloc(), b"a.example")?,
         target: Text::of(rt.alloc(), b"/")?,
+        tag: None,
     };
     assert!(rt; matches!(&gate.fetch(rt.alloc(), &ask), Outcome::Failed));
     assert_eq!(rt; gate.faults(), 1);

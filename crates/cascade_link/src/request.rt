@@ -71,6 +71,7 @@ pub(crate) fn ask_of(alloc: Global, place: &Target) -> Result<Ask, AllocError>
     Ok(Ask {
         endpoint: endpoint_of(place)?,
         target: Text::from_vec(text),
+        tag: None,
     })
 }
 

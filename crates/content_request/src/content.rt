@@ -4,14 +4,14 @@ ghost use Rattle.std.specs.Prelude.{◌≡◌, ◌≢◌, ◌≤◌, ◌<◌, fa
 ghost use Rattle.cdni_base.specs.declared.date.TheConstants.{DATE_END};
 ghost use Rattle.edge_base.specs.Causes.{Rose};
 ghost use Rattle.session_base.specs.Answer.{IsConstant, Says};
-ghost use Rattle.content_request.specs.Course.{Content, Course, Delivers, DeliversFetched, Follows, HasGateFault, MayFallShort};
+ghost use Rattle.content_request.specs.Course.{Content, Course, Delivers, DeliversFetched, DeliversKept, Follows, HasGateFault, MayFallShort};
 ghost use Rattle.session_base.specs.Doing.{Any, Does, Doing};
 ghost use Rattle.session_base.specs.Ending.{next_of};
 ghost use Rattle.session_base.specs.declared.ending.Ending.{Ending};
 ghost use Rattle.session_base.specs.Open.{BothOpen};
 
 use crate::refresh::{Refreshed, refresh};
-use cdni_base::{Asked, EndpointList, Target};
+use cdni_base::{Asked, Body, Target, TypeName};
 use cdni_log::ExtraList;
 use edge_base::{Clock, Sink};
 use history::{Call, Reply};
@@ -120,11 +120,35 @@ fn deliver<R: Threads + Wait + Sync, H: Home, K: Sink, G: Gate, C: Clock>(
                 plan,
             },
         ) => {
-            let outcome = ask(alloc, gate, &plan, &target);
+            let outcome = ask(alloc, gate, &plan, &target, None);
             deliver_fetched(
                 rt, alloc, home, sink, clock, room, manner, delivery, fetch, outcome,
             )
         }
+        Ok(
+            Reply::Check {
+                delivery,
+                fetch,
+                base: _,
+                kind,
+                tag,
+                body,
+                plan,
+            },
+        ) => match ask(alloc, gate, &plan, &target, Some(&tag)) {
+            Outcome::Unchanged => {
+                let kept = Kept {
+                    delivery,
+                    fetch,
+                    kind,
+                    body,
+                };
+                deliver_kept(rt, alloc, home, sink, clock, room, manner, kept)
+            }
+            outcome => deliver_fetched(
+                rt, alloc, home, sink, clock, room, manner, delivery, fetch, outcome,
+            ),
+        },
         Ok(Reply::Full { count }) => {
             let sent = room.turn_away(sink, manner, count);
             next_of(manner.leaves, false, sent.fault)
@@ -180,6 +204,41 @@ fn deliver_fetched<R: Threads + Wait + Sync, H: Home, K: Sink, C: Clock>(
     }
 }
 
+// A delivery whose fetch said that what is kept is unchanged, and that.
+#[derive(Drop)]
+struct Kept {
+    delivery: u64,
+    fetch: u64,
+    kind: TypeName,
+    body: Body,
+}
+
+// ends a fetch that said so, and answers with what is kept, as with content of status 200
+fn deliver_kept<R: Threads + Wait + Sync, H: Home, K: Sink, C: Clock>(
+    rt: &R,
+    alloc: Global,
+    home: &mut H,
+    sink: &mut K,
+    clock: &mut C,
+    room: &mut AnswerRoom,
+    manner: &Manner,
+    kept: Kept,
+) -> Next
+    requires { manner.now.moment < DATE_END }
+    ensures who { H.who home.new ≡ H.who home.old }
+    ensures stays { H.stays home.old home.new }
+    ensures does { (d : Doing) × DeliversKept manner.now kept.delivery kept.fetch kept.kind kept.body d result
+        × Does (H.who home.old) (BothOpen (H.who home.old) kept.delivery kept.fetch) (H.has_seen home.old) (H.has_seen home.new)
+        (C.given clock.old) (C.given clock.new) None None (K.held sink.old) (K.held sink.new) d }
+    ensures later { K.faults sink.old ≤ K.faults sink.new }
+    ensures write { result ≡ Next.Stops Ending.WriteFault → Rose (K.faults sink.old) (K.faults sink.new) }
+{
+    end_fetch(rt, alloc, home, clock, kept.fetch, Outcome::Unchanged);
+    let sent = room.give(sink, manner, &kept.kind, kept.body.bytes());
+    finish(rt, alloc, home, clock, kept.delivery, &sent);
+    next_of(manner.leaves, false, sent.fault)
+}
+
 // the same outcome, whose body is shared; none where it or the sharing found no memory
 fn shared(alloc: Global, outcome: &Outcome) -> Option<Outcome>
     ensures some { IfSome result (λ shown. (shown ≡ outcome.now) × (outcome.now ≢ Outcome.Memory)) }
@@ -191,6 +250,7 @@ fn shared(alloc: Global, outcome: &Outcome) -> Option<Outcome>
             Err(_) => None,
         },
         Outcome::Memory => None,
+        Outcome::Unchanged => Some(Outcome::Unchanged),
         Outcome::Refused { status } => Some(Outcome::Refused { status: *status }),
         Outcome::TooLong { length } => Some(Outcome::TooLong { length: *length }),
         Outcome::Malformed { taken } => Some(Outcome::Malformed { taken: *taken }),

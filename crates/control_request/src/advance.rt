@@ -120,7 +120,7 @@ fn fetch_for<R: Threads + Wait + Sync, H: Home, G: Gate, C: Clock>(
         × CountsFaults (G.faults gate.old) (G.faults gate.new) d.calls }
     ensures later { G.faults gate.old ≤ G.faults gate.new }
 {
-    let outcome = ask(alloc, gate, plan, target);
+    let outcome = ask(alloc, gate, plan, target, None);
     let step = step_after(&outcome);
     end_fetch(rt, alloc, home, clock, fetch, outcome);
     step

@@ -20,6 +20,7 @@ use Rattle.verdict.specs.Plan.{plan_of}
 use Rattle.history.specs.After.{admission}
 use Rattle.history.specs.Event.{Request}
 use Rattle.history.specs.Kept.{kept_of, used}
+use Rattle.history.specs.Reply.{tag_for}
 use Rattle.history.specs.Metadata.{ccid_at, forbidden, is_skipped, key_at, key_by, objects_of, plan_at}
 use Rattle.history.specs.World.{Kept}
 use Rattle.history.specs.declared.begun.Admission.{Admission}
@@ -27,9 +28,10 @@ use Rattle.history.specs.declared.begun.Fetching.{Fetching}
 use Rattle.delivery_core.specs.Installed.{Seen, index_in, invalid_in, invalidated}
 use Rattle.shelf.specs.Open.{unnamed}
 use Rattle.delivery_core.specs.Refreshes.{Refreshing, first_noted, noted_of, with_starts}
-use Rattle.shelf.specs.KeptShelf.{is_gained, brought, struck, unhit}
+use Rattle.shelf.specs.KeptShelf.{Held, brought, is_gained, is_sound, left_after, struck}
 use Rattle.delivery_core.specs.declared.decision.Decision.{Decision}
 use Rattle.delivery_core.specs.declared.decision.Decision.TheVariants as decision
+use Rattle.delivery_core.specs.declared.decision.Found.{Found}
 use Rattle.shelf.specs.declared.open.Open.{Open}
 use Rattle.delivery_core.specs.declared.results.Admitted.{Admitted}
 use Rattle.delivery_core.specs.declared.results.Admitted.TheVariants as admitted
@@ -56,10 +58,10 @@ pub record EdgeView : Type 0 where
   pub installed : ℕ  -- installations
 
 -- what is seen of an edge, and what it has in memory of what fetches brought: the kept objects, and those that starts have
--- hit and that have not left yet
+-- taken back and that have not left yet
 pub record Holding : Type 0 where
   pub seen : EdgeView
-  pub held : List Kept
+  pub held : List Held
 
 abbrev pub index_of : EdgeView → Option Index
 index_of v = index_in v.tree
@@ -70,11 +72,22 @@ invalid_of v = invalid_in v.tree
 
 -- ---- a request
 
--- with this effective metadata an allowed request has what is kept under its key, or waits for a fetch
+-- what a request has or asks for of a kept object
+abbrev pub found_of : Kept → Found
+found_of kept = record { fetch = kept.fetch; kind = kept.kind; body = kept.body }
+
+-- it waits for a fetch, which asks whether what is kept, and has this tag, is unchanged
+abbrev pub doubted_by : List Generic → KeyParts → Option (List ℕ) → Kept → Option (List ℕ) → Decision
+doubted_by objects key ccid kept None = decision.Miss key ccid (plan_of objects)
+doubted_by objects key ccid kept (Some tag) = decision.Check key ccid (found_of kept) tag (plan_of objects)
+
+-- with this effective metadata an allowed request has what is kept under its key, or waits for a fetch, which asks for its tag
+-- where it is doubtful and of the collection of the request
 abbrev pub allowed_by : List Generic → Target → Option Kept → Decision
-allowed_by objects target (Some kept) =
-    decision.Hit (key_by objects target) (ccid_of objects) (record { fetch = kept.fetch; kind = kept.kind; body = kept.body })
 allowed_by objects target None = decision.Miss (key_by objects target) (ccid_of objects) (plan_of objects)
+allowed_by objects target (Some kept) = if kept.doubtful
+    then doubted_by objects (key_by objects target) (ccid_of objects) kept (tag_for (ccid_of objects) kept)
+    else decision.Hit (key_by objects target) (ccid_of objects) (found_of kept)
 
 abbrev pub allowed : List Kept → List Generic → Target → Decision
 allowed kept objects target = allowed_by objects target (kept_of (key_by objects target) kept)
@@ -83,16 +96,17 @@ abbrev pub decided : Option Index → List Kept → Target → Option Rule → D
 decided index kept target (Some rule) = decision.Deny rule
 decided index kept target None = allowed kept (objects_of index target) target
 
--- denied by the first rule that forbids, a hit, or a miss
+-- denied by the first rule that forbids, a hit, a check, or a miss
 abbrev pub decision_of : EdgeView → Asked → Place → ℕ → Decision
 decision_of v asked place moment = decided (index_of v) v.kept asked.target
     (forbidden (index_of v) (invalid_of v) asked place moment)
 
--- a hit is of a key under which something is kept, and a miss of another
+-- a hit is of a key under which something is kept that is not doubtful
 abbrev pub IsOfKept : List Kept → Decision → Type 0
 IsOfKept kept (decision.Deny rule) = Unit {0}
-IsOfKept kept (decision.Hit key ccid found) = is_some (kept_of key kept) ≡ true
-IsOfKept kept (decision.Miss key ccid plan) = kept_of key kept ≡ None
+IsOfKept kept (decision.Hit key ccid found) = is_sound (kept_of key kept) ≡ true
+IsOfKept kept (decision.Miss key ccid plan) = Unit {0}
+IsOfKept kept (decision.Check key ccid found tag plan) = Unit {0}
 
 -- how many deliveries are open and rows unfiled, together
 abbrev pub pending : EdgeView → ℕ
@@ -107,6 +121,8 @@ abbrev pub entered_reply : EdgeView → Decision → Admitted
 entered_reply v (decision.Deny rule) = admitted.Denied (v.delivered + 1) rule
 entered_reply v (decision.Hit key ccid found) = admitted.Hit (v.delivered + 1) found.fetch found.kind found.body
 entered_reply v (decision.Miss key ccid plan) = admitted.Miss (v.delivered + 1) (v.fetched + 1) plan
+entered_reply v (decision.Check key ccid found tag plan) =
+    admitted.Check (v.delivered + 1) (v.fetched + 1) found.fetch found.kind tag found.body plan
 
 abbrev pub admit_reply_by : EdgeView → Decision → Option ℕ → Admitted
 admit_reply_by v decision (Some count) = admitted.Full count
@@ -157,7 +173,9 @@ abbrev pub entered : EdgeView → ℕ → Admission → Decision → EdgeView
 entered v pass what (decision.Deny rule) = with_denial v pass what
 entered v pass what (decision.Hit key ccid found) = with_hit v pass (of_collection what ccid true) key
 entered v pass what (decision.Miss key ccid plan) =
-    with_miss v pass (of_collection what ccid false) (record { key = key; ccid = ccid })
+    with_miss v pass (of_collection what ccid false) (record { key = key; ccid = ccid; base = None })
+entered v pass what (decision.Check key ccid found tag plan) =
+    with_miss v pass (of_collection what ccid false) (record { key = key; ccid = ccid; base = Some found.fetch })
 
 abbrev pub admit_after_by : EdgeView → ℕ → Admission → Decision → Option ℕ → EdgeView
 admit_after_by v pass what decision (Some count) = v
@@ -272,11 +290,11 @@ resources_of (Some tree) = tree.resources
 
 -- ---- triggers
 
--- an invalidate or a purge becomes active
-abbrev pub start_after : EdgeView → ℕ → Selection → EdgeView
-start_after v trigger selection = record v {
+-- an invalidate or a purge becomes active (RFC 8007, section 5.2.2)
+abbrev pub start_after : EdgeView → ℕ → Bool → Selection → EdgeView
+start_after v trigger purge selection = record v {
   tree = option_map (invalidated trigger selection) v.tree;
-  kept = unhit selection v.kept;
+  kept = left_after purge selection v.kept;
   fetches = map (struck selection) v.fetches;
   refreshes = map (with_starts (noted_of trigger selection)) v.refreshes;
   started = v.started + 1;
@@ -289,7 +307,7 @@ skips v url = is_skipped (index_of v) (invalid_of v) url
 -- what its fetch has to bring, and from where
 abbrev pub sourced : EdgeView → Target → Option (Fetching × List Endpoint)
 sourced v url = if skips v url then None
-    else Some (record { key = key_at (index_of v) url; ccid = ccid_at (index_of v) url }, plan_at (index_of v) url)
+    else Some (record { key = key_at (index_of v) url; ccid = ccid_at (index_of v) url; base = None }, plan_at (index_of v) url)
 
 abbrev pub plan_reply : EdgeView → Target → Option Planned
 plan_reply v url = option_map (λ found. record { fetch = v.fetched + 1; plan = found.1 }) (sourced v url)

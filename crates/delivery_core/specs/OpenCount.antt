@@ -13,6 +13,7 @@ abbrev pub begun_count : Reply → ℕ
 begun_count (reply.Denied delivery rule) = 1
 begun_count (reply.Hit delivery fetch kind body) = 1
 begun_count (reply.Miss delivery fetch plan) = 2
+begun_count (reply.Check delivery fetch base kind tag body plan) = 2
 begun_count (reply.Due refresh) = 1
 begun_count (reply.Fetch fetch plan target) = 1
 begun_count (reply.Refresh refresh) = 1

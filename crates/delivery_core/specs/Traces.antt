@@ -96,6 +96,7 @@ abbrev pub reply_of : Admitted → Reply
 reply_of (admitted.Denied delivery rule) = reply.Denied delivery rule
 reply_of (admitted.Hit delivery fetch kind body) = reply.Hit delivery fetch kind body
 reply_of (admitted.Miss delivery fetch plan) = reply.Miss delivery fetch plan
+reply_of (admitted.Check delivery fetch base kind tag body plan) = reply.Check delivery fetch base kind tag body plan
 reply_of (admitted.Full count) = reply.Full count
 
 -- that of the end of a fetch of this number

@@ -13,6 +13,7 @@ use history::Fetching;
 use inheritance::Effective;
 use location_acl::Place;
 use std::alloc::{AllocError, Global};
+use upstream_gate::Tag;
 use verdict::{Verdict, judge, plan};
 
 /// What becomes of a request, and the key and collection of its content.
@@ -34,9 +35,17 @@ pub(crate) enum Decision {
         ccid: Option<Text>,
         plan: EndpointList,
     },
+    /// It waits for a fetch that asks these endpoints, in order, whether what was found, and has this tag, is unchanged.
+    Check {
+        key: Key,
+        ccid: Option<Text>,
+        found: Found,
+        tag: Tag,
+        plan: EndpointList,
+    },
 }
 
-/// What a fetch brought.
+/// What is kept of a fetch, which brought it or confirmed it last.
 #[derive(Drop)]
 pub(crate) struct Found {
     pub fetch: u64,
@@ -107,7 +116,8 @@ fn judge_by<'t>(
     }
 }
 
-/// What a fetch of the target brings is kept under this key, and is of this collection, by its effective metadata.
+/// What a fetch of the target brings is kept under this key, and is of this collection, by its effective metadata. It asks for
+/// no base.
 ///
 /// # Errors
 /// Want of memory.
@@ -116,11 +126,16 @@ pub(crate) fn fetching_by(
     effective: &Effective,
     target: &Target,
 ) -> Result<Fetching, AllocError>
-    ensures { IfOk result (λ what. what ≡ record { key = key_by effective.now target.now; ccid = ccid_of effective.now }) }
+    ensures { IfOk result (λ what. what ≡ record {
+      key = key_by effective.now target.now;
+      ccid = ccid_of effective.now;
+      base = None;
+    }) }
 {
     Ok(Fetching {
         key: key_by(alloc, effective, target)?,
         ccid: ccid_by(effective)?,
+        base: None,
     })
 }
 

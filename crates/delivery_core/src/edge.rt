@@ -1,15 +1,16 @@
 //! The edge: what is installed, kept and open.
 
-ghost use Rattle.std.specs.Prelude.{◌≡◌, ◌≤◌, ◌<◌, ◌^◌, ◌+◌, ◌-◌, ◌++◌, ◌∷◌, [], Ok, IfOk, IfNone, OnErr, OnOk, OnSome, None, false, true, is_some, MatchOption, length, option_map};
+ghost use Rattle.std.specs.Prelude.{◌≡◌, ◌≤◌, ◌<◌, ◌^◌, ◌+◌, ◌-◌, ◌++◌, ◌∷◌, [], Ok, IfOk, IfNone, OnErr, OnOk, OnSome, None, false, true, is_some, MatchOption, length, map, option_map};
 ghost use Rattle.std.specs.List.{find};
 ghost use Rattle.history.specs.After.{admission, is_secure, row_of};
 ghost use Rattle.history.specs.Event.{request_of};
-ghost use Rattle.history.specs.Kept.{kept_of, total};
+ghost use Rattle.history.specs.Kept.{kept_of, same_ccid};
+ghost use Rattle.history.specs.Reply.{tag_for};
 ghost use Rattle.metadata_objects.specs.Tree.{tree_view};
-ghost use Rattle.shelf.specs.KeptShelf.{IsPartOf, IsPartOfOrKept};
+ghost use Rattle.shelf.specs.KeptShelf.{IsPartOf, IsPartOfOrKept, held_of, is_sound, shown_as, total_held};
 ghost use Rattle.shelf.specs.Open.{is_named};
 ghost use Rattle.delivery_core.specs.Refreshes.{end_reply};
-ghost use Rattle.delivery_core.specs.Edge.{allowed, of_collection, resources_of};
+ghost use Rattle.delivery_core.specs.Edge.{allowed, doubted_by, found_of, of_collection, resources_of};
 
 use crate::decision::{
     Decision, Found, Judged, effective_at, fetching_by, judge_request, unskipped_plan,
@@ -24,12 +25,11 @@ use history::{Admission, Fetching};
 use inheritance::Effective;
 use location_acl::Place;
 use metadata_objects::Tree;
-use object_cache::Object;
-use shelf::Shelf;
+use shelf::{Shelf, Shown};
 use std::alloc::{AllocError, Global};
 use std::marker::Model;
 use trigger_command::Selection;
-use upstream_gate::Outcome;
+use upstream_gate::{Outcome, Tag};
 use verdict::plan;
 
 /// The installed metadata, what is kept of fetches, the deliveries, fetches and refreshes that are open, and the rows of
@@ -110,8 +110,9 @@ impl Edge {
     }
 
     /// Takes in a request of a client at this place, with what its record has of its header fields, where so many
-    /// answers have opened something. It is refused where the limit of deliveries or of such answers is reached, denied by the first rule that forbids it, a hit where an
-    /// object of its key is kept, and else a miss, whose fetch begins.
+    /// answers have opened something. It is refused where the limit of deliveries or of such answers is reached, denied by the
+    /// first rule that forbids it, a hit where an object of its key is kept that is not doubtful, a check, whose fetch begins,
+    /// where a doubtful one of its collection is, and else a miss, whose fetch begins.
     ///
     /// # Errors
     /// Want of memory. Nothing has changed then.
@@ -216,7 +217,42 @@ impl Edge {
             Decision::Hit { key, ccid, found } => {
                 self.hit(alloc, pass, of_collection(what, ccid, true), key, found)
             }
-            Decision::Miss { key, ccid, plan } => self.miss(alloc, pass, what, key, ccid, plan),
+            Decision::Miss { key, ccid, plan } => {
+                let what_for = Fetching {
+                    key,
+                    ccid,
+                    base: None,
+                };
+                let (delivery, fetch) = self.wait(alloc, pass, what, what_for)?;
+                Ok(Admitted::Miss {
+                    delivery,
+                    fetch,
+                    plan,
+                })
+            }
+            Decision::Check {
+                key,
+                ccid,
+                found,
+                tag,
+                plan,
+            } => {
+                let what_for = Fetching {
+                    key,
+                    ccid,
+                    base: Some(found.fetch),
+                };
+                let (delivery, fetch) = self.wait(alloc, pass, what, what_for)?;
+                Ok(Admitted::Check {
+                    delivery,
+                    fetch,
+                    base: found.fetch,
+                    kind: found.kind,
+                    tag,
+                    body: found.body,
+                    plan,
+                })
+            }
         }
     }
 
@@ -249,7 +285,7 @@ impl Edge {
         found: Found,
     ) -> Result<Admitted, AllocError>
         requires delivered { self.old.seen.delivered ≤ 2 ^ 62 }
-        requires kept { is_some (kept_of key self.old.seen.kept) ≡ true }
+        requires kept { is_sound (kept_of key self.old.seen.kept) ≡ true }
         ensures reply { IfOk result (λ r. r
             ≡ Admitted.Hit (self.old.seen.delivered + 1) found.fetch found.kind found.body) }
         ensures after { OnOk result (self.new.seen ≡ with_hit self.old.seen pass what key) }
@@ -257,7 +293,7 @@ impl Edge {
         ensures err { OnErr result (self.new ≡ self.old) }
     {
         self.records.reserve(alloc)?;
-        self.shelf.renew(alloc, &key)?;
+        self.shelf.renew(&key);
         let delivery = self.records.begin(pass, what);
         Ok(Admitted::Hit {
             delivery,
@@ -267,36 +303,28 @@ impl Edge {
         })
     }
 
-    // a delivery that waits for a fetch, and the fetch
-    fn miss(
+    // a delivery that waits for a fetch, and the fetch: the numbers of both
+    fn wait(
         &mut self,
         alloc: Global,
         pass: u32,
         what: Admission,
-        key: Key,
-        ccid: Option<Text>,
-        plan: EndpointList,
-    ) -> Result<Admitted, AllocError>
+        fetching: Fetching,
+    ) -> Result<(u64, u64), AllocError>
         requires delivered { self.old.seen.delivered ≤ 2 ^ 62 }
         requires fetched { self.old.seen.fetched ≤ 2 ^ 62 }
-        requires kept { kept_of key self.old.seen.kept ≡ None }
-        ensures reply { IfOk result (λ r. r
-            ≡ Admitted.Miss (self.old.seen.delivered + 1) (self.old.seen.fetched + 1) plan) }
-        ensures after { OnOk result (self.new.seen ≡ with_miss self.old.seen pass (of_collection what ccid false)
-            (record { key = key; ccid = ccid })) }
+        ensures numbers { IfOk result (λ r. r ≡ (self.old.seen.delivered + 1, self.old.seen.fetched + 1)) }
+        ensures after { OnOk result (self.new.seen
+            ≡ with_miss self.old.seen pass (of_collection what fetching.ccid false) fetching) }
         ensures held { IsPartOf self.new.held self.old.held }
         ensures err { OnErr result (self.new ≡ self.old) }
     {
         self.records.reserve(alloc)?;
-        let copy = copy_of(&ccid)?;
+        let copy = copy_of(&fetching.ccid)?;
         let what = of_collection(what, copy, false);
-        let fetch = self.shelf.open_missed(alloc, pass, Fetching { key, ccid })?;
+        let fetch = self.shelf.open_missed(alloc, pass, fetching)?;
         let delivery = self.records.begin(pass, what);
-        Ok(Admitted::Miss {
-            delivery,
-            fetch,
-            plan,
-        })
+        Ok((delivery, fetch))
     }
 
     /// Ends the fetch of this number, if this pass opened it, and keeps what it brought where it is to be kept. It takes
@@ -360,7 +388,7 @@ impl Edge {
     /// The lengths of all bodies that are in memory together, in bytes: of the kept objects, and of those that starts have
     /// taken back and that have not left yet.
     pub fn held(&self) -> u64
-        ensures { result ≡ total self.now.held }
+        ensures { result ≡ total_held self.now.held }
     {
         self.shelf.held()
     }
@@ -505,9 +533,9 @@ impl Edge {
         }
     }
 
-    /// An invalidate or a purge becomes active (RFC 8007, section 5.2.2): what its selection hits is no longer kept, of the
-    /// open fetches that it hits nothing will be, and the installed metadata and that of the open refreshes is invalid
-    /// where it hits one of the documents.
+    /// An invalidate or a purge becomes active (RFC 8007, section 5.2.2): of what its selection hits, what is kept leaves, or,
+    /// where it has a tag and the trigger is no purge, is doubtful; of the open fetches that it hits nothing will be kept; and
+    /// the installed metadata and that of the open refreshes is invalid where it hits one of the documents.
     ///
     /// # Errors
     /// Want of memory. Nothing has changed then.
@@ -515,15 +543,16 @@ impl Edge {
         &mut self,
         alloc: Global,
         trigger: u64,
+        purge: bool,
         selection: &Selection,
     ) -> Result<(), AllocError>
         requires { self.old.seen.started ≤ 2 ^ 62 }
-        ensures after { OnOk result (self.new.seen ≡ start_after self.old.seen trigger selection.now) }
+        ensures after { OnOk result (self.new.seen ≡ start_after self.old.seen trigger purge selection.now) }
         ensures held { self.new.held ≡ self.old.held }
         ensures err { OnErr result (self.new ≡ self.old) }
     {
         let copy = self.refreshes.copy_start(alloc, trigger, selection)?;
-        self.shelf.start(alloc, selection)?;
+        self.shelf.start(alloc, purge, selection)?;
         self.refreshes.note(copy);
         if let Some(installed) = &mut self.installed {
             installed.start(trigger, selection);
@@ -533,7 +562,7 @@ impl Edge {
 
     /// What starts have taken back leaves memory at once, and not when a fetch is next kept. It takes no memory.
     pub fn sweep(&mut self)
-        ensures { self.new ≡ record self.old { held = self.old.seen.kept } }
+        ensures { self.new ≡ record self.old { held = map held_of self.old.seen.kept } }
     {
         self.shelf.sweep();
     }
@@ -614,13 +643,13 @@ fn decide_allowed(
 ) -> Result<Decision, AllocError>
     ensures { IfOk result (λ decision. decision ≡ allowed shelf.now.kept effective.now target.now) }
 {
-    let Fetching { key, ccid } = fetching_by(alloc, effective, target)?;
+    let Fetching { key, ccid, base: _ } = fetching_by(alloc, effective, target)?;
     match shelf.find(&key) {
-        Some(object) => Ok(Decision::Hit {
-            key,
-            ccid,
-            found: copy_found(alloc, object)?,
-        }),
+        Some(shown) if !shown.doubtful => {
+            let found = copy_found(alloc, &shown)?;
+            Ok(Decision::Hit { key, ccid, found })
+        }
+        Some(shown) => decide_doubtful(alloc, effective, key, ccid, &shown),
         None => Ok(Decision::Miss {
             key,
             ccid,
@@ -629,18 +658,62 @@ fn decide_allowed(
     }
 }
 
-// what the kept object has, its body shared
-fn copy_found(alloc: Global, object: &Object) -> Result<Found, AllocError>
-    ensures { IfOk result (λ found. found ≡ record {
-      fetch = object.now.fetch;
-      kind = object.now.kind;
-      body = object.now.body;
-    }) }
+// what becomes of it where what is kept under its key is doubtful: that is checked where it is of the same collection
+fn decide_doubtful(
+    alloc: Global,
+    effective: &Effective,
+    key: Key,
+    ccid: Option<Text>,
+    shown: &Shown<'_>,
+) -> Result<Decision, AllocError>
+    ensures { IfOk result (λ decision. decision ≡ doubted_by effective.now key ccid (shown_as shown.now)
+        (tag_for ccid (shown_as shown.now))) }
+{
+    let plan = plan(alloc, effective)?;
+    match tag_for(&ccid, shown)? {
+        Some(tag) => Ok(Decision::Check {
+            key,
+            ccid,
+            found: copy_found(alloc, shown)?,
+            tag,
+            plan,
+        }),
+        None => Ok(Decision::Miss { key, ccid, plan }),
+    }
+}
+
+// a copy of the tag of what is kept, where it is of this collection
+fn tag_for(ccid: &Option<Text>, shown: &Shown<'_>) -> Result<Option<Tag>, AllocError>
+    ensures { IfOk result (λ tag. tag ≡ tag_for ccid.now (shown_as shown.now)) }
+{
+    if !is_same_ccid(ccid, &shown.object.ccid) {
+        return Ok(None);
+    }
+    match &shown.mark.tag {
+        Some(tag) => Ok(Some(tag.clone()?)),
+        None => Ok(None),
+    }
+}
+
+// whether both are of the same collection, or of none
+fn is_same_ccid(one: &Option<Text>, other: &Option<Text>) -> bool
+    ensures { result ≡ same_ccid one.now other.now }
+{
+    match (one, other) {
+        (None, None) => true,
+        (Some(one), Some(other)) => one.is(other.bytes()),
+        _ => false,
+    }
+}
+
+// what is kept, its body shared
+fn copy_found(alloc: Global, shown: &Shown<'_>) -> Result<Found, AllocError>
+    ensures { IfOk result (λ found. found ≡ found_of (shown_as shown.now)) }
 {
     Ok(Found {
-        fetch: object.fetch,
-        kind: object.kind.clone()?,
-        body: object.body.share(alloc)?,
+        fetch: shown.mark.note.fetch,
+        kind: shown.object.kind.clone()?,
+        body: shown.object.body.share(alloc)?,
     })
 }
 

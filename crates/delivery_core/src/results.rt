@@ -1,6 +1,7 @@
 //! What the calls of an edge answer.
 
 use cdni_base::{Body, EndpointList, Moment, Rule, TypeName};
+use upstream_gate::Tag;
 
 /// What becomes of a request.
 #[derive(Drop)]
@@ -21,6 +22,17 @@ pub enum Admitted {
     Miss {
         delivery: u64,
         fetch: u64,
+        plan: EndpointList,
+    },
+    /// This delivery waits for this fetch, which asks these endpoints in order whether what is kept of the base, and has this
+    /// tag, is unchanged.
+    Check {
+        delivery: u64,
+        fetch: u64,
+        base: u64,
+        kind: TypeName,
+        tag: Tag,
+        body: Body,
         plan: EndpointList,
     },
     /// A limit is reached: so many deliveries and rows, or so many answers that opened something.

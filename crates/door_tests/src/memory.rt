@@ -25,7 +25,7 @@ fn got(alloc: Global, kind: &[u8], body: &[u8]) -> Result<Outcome, Fail> {
     let Some(kind) = TypeName::of(alloc, kind)? else {
         return Err(Fail::from("a short name"));
     };
-    match Got::new(200, kind, Body::of(alloc, body)?) {
+    match Got::new(200, kind, None, true, Body::of(alloc, body)?) {
         Some(got) => Ok(Outcome::Got(got)),
         None => Err(Fail::from("a status")),
     }

@@ -51,7 +51,7 @@ fn exchanged<G: Gate>(
     for number in 0..count {
         let url = format!(in alloc; "http://127.0.0.1:{port}/d/{number}")?;
         let target = target_of(alloc, url.as_bytes())?;
-        if let Outcome::Got(_) = fetch_plan(alloc, gate, &plan, &target) {
+        if let Outcome::Got(_) = fetch_plan(alloc, gate, &plan, &target, None) {
             came = came.saturating_add(1);
         }
     }
@@ -63,7 +63,7 @@ fn document(alloc: Global, text: &[u8]) -> anyhow::Result<Outcome> {
     let Some(kind) = TypeName::of(alloc, b"application/json")? else {
         bail!("the type is too long");
     };
-    match Got::new(200, kind, Body::of(alloc, text)?) {
+    match Got::new(200, kind, None, true, Body::of(alloc, text)?) {
         Some(got) => Ok(Outcome::Got(got)),
         None => bail!("the document is too long"),
     }

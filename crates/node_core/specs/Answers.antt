@@ -8,6 +8,7 @@ abbrev pub answers_admit : Reply → Bool
 answers_admit (reply.Denied delivery rule) = true
 answers_admit (reply.Hit delivery fetch kind body) = true
 answers_admit (reply.Miss delivery fetch plan) = true
+answers_admit (reply.Check delivery fetch base kind tag body plan) = true
 answers_admit (reply.Full count) = true
 answers_admit answer = false
 

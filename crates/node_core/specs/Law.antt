@@ -4,7 +4,7 @@ use Rattle.std.specs.List.{slice_get}
 use Rattle.std.specs.declared.option.Option.{Option}
 use Rattle.cdni_base.specs.declared.rule.Rule.{Rule}
 use Rattle.delivery_law.specs.Denials.{Forbids, IsFirstToForbid, IsInForce, is_admitted}
-use Rattle.delivery_law.specs.Fetches.{BeginsItsFetch, IsOfOneFetch}
+use Rattle.delivery_law.specs.Fetches.{ChecksItsBase, BeginsItsFetch, IsOfOneFetch}
 use Rattle.delivery_law.specs.LogRows.{HasRow}
 use Rattle.delivery_law.specs.Metadata.{HasUnhitMetadata, uses_metadata}
 use Rattle.delivery_law.specs.Refreshes.{IsFreshAt, IsUntouched, WasTakenBack}
@@ -27,7 +27,7 @@ abbrev pub with_call : History → ℕ → Event → History
 with_call h pass event = h ++ (pass, event) ∷ []
 
 -- A denial names the first rule that forbids, and what is admitted none forbids. A hit has what one fetch brought; a miss
--- begins its own fetch; and what is read from the metadata is read from metadata that nothing has taken back.
+-- begins its own fetch; a check begins its own, which asks for what one fetch brought; and what is read from the metadata is read from metadata that nothing has taken back.
 pub record IsLawfulAdmission (made : Made) (h : History) (pass : ℕ) (event : Event) (answer : Reply) : Type 0 where
   pub denied : (request : Request) (moment delivery : ℕ) (rule : Rule)
       → event ≡ Admit request moment → answer ≡ reply.Denied delivery rule
@@ -40,6 +40,9 @@ pub record IsLawfulAdmission (made : Made) (h : History) (pass : ℕ) (event : E
   pub miss : (request : Request) (moment delivery fetch : ℕ) (plan : List Endpoint)
       → event ≡ Admit request moment → answer ≡ reply.Miss delivery fetch plan
       → BeginsItsFetch made h (pass, Admit request moment) request.asked.target fetch plan
+  pub check : (request : Request) (moment delivery fetch base : ℕ) (kind tag body : List ℕ) (plan : List Endpoint)
+      → event ≡ Admit request moment → answer ≡ reply.Check delivery fetch base kind tag body plan
+      → ChecksItsBase made h (pass, Admit request moment) request.asked.target fetch base kind tag body plan
   pub metadata : (request : Request) (moment : ℕ) → event ≡ Admit request moment
       → IsTrue (uses_metadata answer) → HasUnhitMetadata made h
 

@@ -39,6 +39,7 @@ abbrev pub need_of : Reply → Need
 need_of (reply.Denied delivery rule) = need.Delivery delivery
 need_of (reply.Hit delivery fetch kind body) = need.Delivery delivery
 need_of (reply.Miss delivery fetch plan) = need.Miss delivery fetch
+need_of (reply.Check delivery fetch base kind tag body plan) = need.Miss delivery fetch
 need_of (reply.Due refresh) = need.Refresh refresh
 need_of (reply.Fetch fetch plan target) = need.Fetch fetch
 need_of (reply.Refresh refresh) = need.Refresh refresh

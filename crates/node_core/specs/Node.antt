@@ -2,7 +2,7 @@
 use Rattle.std.specs.Prelude.{◌≡◌, ℕ, ◌%◌, ◌^◌, Bool, true, false, not, List, [], ◌∷◌, ◌++◌, length, map}
 use Rattle.history.specs.Event.{Entry, History}
 use Rattle.history.specs.History.{reply_to, world_of}
-use Rattle.history.specs.World.{Kept, Made}
+use Rattle.history.specs.World.{Made}
 use Rattle.history.specs.declared.reply.Reply.{Reply}
 use Rattle.journal.specs.Seen.{Seen}
 use Rattle.node_core.specs.Call.{entry_of, stripped}
@@ -10,7 +10,7 @@ use Rattle.node_core.specs.Needed.{is_needed, is_needed_for, need_of}
 use Rattle.node_core.specs.Purged.{IsFreeOfPurged}
 use Rattle.node_core.specs.State.{StateHolding, StateView, Follows, Says}
 use Rattle.node_core.specs.Triggering.{completes_purge}
-use Rattle.shelf.specs.KeptShelf.{IsPartOfOrKept}
+use Rattle.shelf.specs.KeptShelf.{Held, IsPartOfOrKept, held_of}
 use Rattle.node_core.specs.declared.entered.Entered.{Entered}
 use Rattle.node_core.specs.declared.entered.Need.{Need}
 
@@ -20,7 +20,7 @@ use Rattle.node_core.specs.declared.entered.Need.{Need}
 pub record NodeView : Type 0 where
   pub made : Made
   pub state : StateView
-  pub held : List Kept
+  pub held : List Held
   pub retired : ℕ
   pub stored : History
   pub needs : List Need
@@ -85,7 +85,8 @@ pub record Adds (old : NodeView) (entry : Entry) (answer : Reply) (new : NodeVie
   pub stored : new.stored ≡ old.stored ++ stripped entry ∷ []
   pub needs : new.needs ≡ old.needs ++ need_of answer ∷ []
   pub held : IsPartOfOrKept new.held old.held new.state.edge.kept
-  pub swept : completes_purge old.state.control.triggers.triggers entry.1 answer ≡ true → new.held ≡ new.state.edge.kept
+  pub swept : completes_purge old.state.control.triggers.triggers entry.1 answer ≡ true
+      → new.held ≡ map held_of new.state.edge.kept
 
 -- a call is stored, and the oldest one is not needed
 abbrev pub is_first_unneeded : StateView → List Entered → Bool

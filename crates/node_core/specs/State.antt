@@ -4,11 +4,12 @@ use Rattle.std.specs.List.{list_any}
 use Rattle.control_core.specs.Control.{ControlView}
 use Rattle.delivery_core.specs.Edge.{EdgeView}
 use Rattle.delivery_core.specs.Traces.{edge_of}
+use Rattle.shelf.specs.KeptShelf.{Held}
 use Rattle.shelf.specs.Open.{is_named}
 use Rattle.delivery_core.specs.OpenCount.{open_count}
 use Rattle.history.specs.Event.{Entry, Event, History, FetchEnd, Finish, RefreshEnd}
 use Rattle.history.specs.History.{reply_to, world_of}
-use Rattle.history.specs.World.{Kept, Made, World}
+use Rattle.history.specs.World.{Made, World}
 use Rattle.node_core.specs.Logs.{control_of}
 use Rattle.history.specs.declared.reply.Reply.{Reply}
 use Rattle.history.specs.declared.reply.Reply.TheVariants as reply
@@ -22,11 +23,11 @@ pub record StateView : Type 0 where
   pub heading : Heading
   pub opened : ℕ
 
--- that, and what is in memory of what fetches brought: the kept objects, and those that starts have hit and that have not
--- left yet
+-- that, and what is in memory of what fetches brought: the kept objects, and those that starts have taken back and that have
+-- not left yet
 pub record StateHolding : Type 0 where
   pub seen : StateView
-  pub held : List Kept
+  pub held : List Held
 
 -- whatever was begun has opened something, and not more was opened than the limit
 pub record IsSound (edge : EdgeView) (control : ControlView) (opened : ℕ) : Type 0 where

@@ -1,5 +1,5 @@
 -- What the calls of triggers make of the two sides of a node, and their replies.
-use Rattle.std.specs.Prelude.{ℕ, Bool, true, false, List, None, Some, Result, Ok, Err}
+use Rattle.std.specs.Prelude.{ℕ, Bool, true, false, List, map, None, Some, Result, Ok, Err}
 use Rattle.std.specs.List.{slice_get}
 use Rattle.std.specs.Option.{option_and_then, option_map, option_map_or}
 use Rattle.std.specs.declared.option.Option.{Option}
@@ -14,6 +14,7 @@ use Rattle.history.specs.World.{Trigger}
 use Rattle.history.specs.declared.reply.Reply.{Reply}
 use Rattle.history.specs.declared.reply.Reply.TheVariants as reply
 use Rattle.node_core.specs.State.{StateView}
+use Rattle.shelf.specs.KeptShelf.{held_of}
 use Rattle.targets.specs.declared.target.Target.{Target}
 use Rattle.trigger_command.specs.declared.spec.TriggerKind.{TriggerKind}
 use Rattle.trigger_command.specs.declared.spec.TriggerKind.TheVariants.{Preposition, Invalidate, Purge}
@@ -26,8 +27,8 @@ use Rattle.trigger_status.specs.declared.job.JobStatus.TheVariants.{Complete}
 -- an invalidate or a purge becomes active (RFC 8007, section 2); a preposition changes nothing of what is kept
 abbrev pub started_as : EdgeView → Job → TriggerKind → EdgeView
 started_as v job Preposition = v
-started_as v job Invalidate = start_after v job.id job.spec.selection
-started_as v job Purge = start_after v job.id job.spec.selection
+started_as v job Invalidate = start_after v job.id false job.spec.selection
+started_as v job Purge = start_after v job.id true job.spec.selection
 
 abbrev pub started_by : EdgeView → Option Job → EdgeView
 started_by v None = v
@@ -37,7 +38,7 @@ started_by v (Some job) = started_as v job job.spec.kind
 abbrev pub swept_as : Holding → TriggerKind → Holding
 swept_as v Preposition = v
 swept_as v Invalidate = v
-swept_as v Purge = record v { held = v.seen.kept }
+swept_as v Purge = record v { held = map held_of v.seen.kept }
 
 abbrev pub swept_by : Holding → Option Job → Holding
 swept_by v None = v

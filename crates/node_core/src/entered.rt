@@ -39,6 +39,11 @@ pub(crate) fn need_of(reply: &Reply) -> Need
             delivery,
             fetch,
             ..
+        }
+        | Reply::Check {
+            delivery,
+            fetch,
+            ..
         } => Need::Miss(*delivery, *fetch),
         Reply::Fetch { fetch, .. } => Need::Fetch(*fetch),
         Reply::Due { refresh } | Reply::Refresh { refresh } => Need::Refresh(*refresh),

@@ -2,7 +2,7 @@
 
 ghost use Rattle.std.specs.Prelude.{◌≡◌, ◌+◌, ◌^◌, ◌<◌, ◌≤◌, [], ◌∷◌, ◌++◌, true, false, length, IfOk, IsOk, OnErr, OnOk};
 ghost use Rattle.history.specs.Event.{History, event_of};
-ghost use Rattle.history.specs.Kept.{total};
+ghost use Rattle.shelf.specs.KeptShelf.{total_held};
 ghost use Rattle.history.specs.World.{Made, node_made};
 ghost use Rattle.node_core.specs.Answers.{answers};
 ghost use Rattle.node_core.specs.Call.{is_end};
@@ -117,7 +117,7 @@ impl Node {
     /// The lengths of all bodies that are in memory together, in bytes: of the kept objects, and of those that triggers have
     /// taken back and that have not left yet. Stored calls have none.
     pub fn held(&self) -> u64
-        ensures { result ≡ total self.now.held }
+        ensures { result ≡ total_held self.now.held }
     {
         self.state.held()
     }
@@ -310,7 +310,7 @@ fn begun_count(reply: &Reply) -> usize
         | Reply::Due { .. }
         | Reply::Fetch { .. }
         | Reply::Refresh { .. } => 1,
-        Reply::Miss { .. } => 2,
+        Reply::Miss { .. } | Reply::Check { .. } => 2,
         _ => 0,
     }
 }

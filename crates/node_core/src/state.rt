@@ -1,10 +1,9 @@
 //! What a node has: its two sides, and what each call makes of them.
 
-ghost use Rattle.std.specs.Prelude.{◌≡◌, ◌≤◌, ◌+◌, ℕ, [], true, false, IfOk, OnErr};
+ghost use Rattle.std.specs.Prelude.{◌≡◌, ◌≤◌, ◌+◌, ℕ, [], true, false, map, IfOk, OnErr};
 ghost use Rattle.std.specs.List.{list_any};
 ghost use Rattle.std.specs.Option.{option_map};
-ghost use Rattle.history.specs.Kept.{total};
-ghost use Rattle.shelf.specs.KeptShelf.{IsPartOf, IsPartOfOrKept};
+ghost use Rattle.shelf.specs.KeptShelf.{IsPartOf, IsPartOfOrKept, held_of, total_held};
 ghost use Rattle.shelf.specs.Open.{is_named};
 ghost use Rattle.delivery_core.specs.Traces.{reply_of, fetch_ended, finished, refresh_ended};
 ghost use Rattle.history.specs.After.{is_fetched, opened_by};
@@ -86,7 +85,7 @@ impl State {
 
     /// The lengths of all bodies that are in memory together, in bytes.
     pub fn held(&self) -> u64
-        ensures { result ≡ total self.now.held }
+        ensures { result ≡ total_held self.now.held }
     {
         self.edge.held()
     }
@@ -154,7 +153,7 @@ impl State {
         ensures places { IfOk result (λ r. open_count self.new.seen.edge ≤ open_count self.old.seen.edge + begun_count r) }
         ensures held { IsPartOfOrKept self.new.held self.old.held self.new.seen.edge.kept }
         ensures swept { IfOk result (λ r. completes_purge self.old.seen.control.triggers.triggers (event_of call.now) r ≡ true
-            → self.new.held ≡ self.new.seen.edge.kept) }
+            → self.new.held ≡ map held_of self.new.seen.edge.kept) }
         ensures err { OnErr result (self.new ≡ self.old) }
     {
         match call {
@@ -414,6 +413,23 @@ fn reply_of(admitted: Admitted) -> Reply
         } => Reply::Miss {
             delivery,
             fetch,
+            plan,
+        },
+        Admitted::Check {
+            delivery,
+            fetch,
+            base,
+            kind,
+            tag,
+            body,
+            plan,
+        } => Reply::Check {
+            delivery,
+            fetch,
+            base,
+            kind,
+            tag,
+            body,
             plan,
         },
         Admitted::Full { count } => Reply::Full { count },

@@ -128,6 +128,16 @@ trigger_line answer = []
 abbrev pub refused_line : CommandFault → List ℕ
 refused_line fault = refusal_text fault ++ LINE_FEED ∷ []
 
+-- a delivery, its fetch and the base of that
+abbrev pub checked_words : ℕ → ℕ → ℕ → List ℕ
+checked_words delivery fetch base =
+    codes "check " ++ decimal delivery ++ SPACE ∷ [] ++ decimal fetch ++ SPACE ∷ [] ++ decimal base
+
+-- what is kept, behind a space: its content type, its tag and its body
+abbrev pub kept_words : List ℕ → List ℕ → List ℕ → List ℕ
+kept_words kind tag body =
+    SPACE ∷ [] ++ kind_word kind ++ SPACE ∷ [] ++ tag ++ SPACE ∷ [] ++ body_word body
+
 -- the answer of a reply, where this was noted of the call
 unfoldable pub answer_line : Reply → Option MetaFault → List ℕ
 answer_line (reply.Denied delivery rule) said =
@@ -138,6 +148,8 @@ answer_line (reply.Miss delivery fetch plan) said =
 answer_line (reply.Hit delivery fetch kind body) said =
     codes "hit " ++ decimal delivery ++ SPACE ∷ [] ++ decimal fetch ++ SPACE ∷ [] ++ kind_word kind
     ++ SPACE ∷ [] ++ body_word body ++ LINE_FEED ∷ []
+answer_line (reply.Check delivery fetch base kind tag body plan) said =
+    checked_words delivery fetch base ++ kept_words kind tag body ++ plan_text plan ++ LINE_FEED ∷ []
 answer_line (reply.Ended kept) said = ended_text kept
 answer_line (reply.Full count) said = numbered (codes "full") count
 answer_line (reply.NotOpen number) said = numbered (codes "not-open") number

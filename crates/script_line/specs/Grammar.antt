@@ -175,13 +175,29 @@ given got = if is_got_status got.status && nat_le (length got.body) BODY_MAX the
 
 unfoldable pub content_of : List ℕ → List ℕ → List ℕ → Option GotParts
 content_of status kind hex = number_below (2 ^ 16) status >>= λ code. kind_of kind >>= λ name. body_of hex
-    >>= λ body. given (record { status = code; kind = name; body = body })
+    >>= λ body. given (record { status = code; kind = name; tag = None; store = true; body = body })
+
+-- content of status 200
+unfoldable pub full_of : List ℕ → Option (List ℕ) → Bool → List ℕ → Option GotParts
+full_of kind tag store hex = kind_of kind >>= λ name. body_of hex
+    >>= λ body. given (record { status = 200; kind = name; tag = tag; store = store; body = body })
 
 -- F STATUS KIND HEX
 unfoldable pub got_of : ℕ → List ℕ → Option Event
 got_of moment text = parts_at SPACE text >>= λ fetch. number_of fetch.0 >>= λ number. parts_at SPACE fetch.1
     >>= λ status. parts_at SPACE status.1 >>= λ kind.
     option_map (λ got. FetchEnd number (outcome.Got got) moment) (content_of status.0 kind.0 kind.1)
+
+-- F KIND TAG HEX
+unfoldable pub tagged_of : ℕ → List ℕ → Option Event
+tagged_of moment text = parts_at SPACE text >>= λ fetch. number_of fetch.0 >>= λ number. parts_at SPACE fetch.1
+    >>= λ kind. parts_at SPACE kind.1 >>= λ tag. tag_of tag.0 >>= λ name.
+    option_map (λ got. FetchEnd number (outcome.Got got) moment) (full_of kind.0 (Some name) true tag.1)
+
+-- F KIND HEX
+unfoldable pub unstored_of : ℕ → List ℕ → Option Event
+unstored_of moment text = parts_at SPACE text >>= λ fetch. number_of fetch.0 >>= λ number. parts_at SPACE fetch.1
+    >>= λ kind. option_map (λ got. FetchEnd number (outcome.Got got) moment) (full_of kind.0 None false kind.1)
 
 -- N: the number of what the call speaks of
 abbrev pub one_of : (ℕ → Event) → List ℕ → Option Event
@@ -217,14 +233,15 @@ of_triggers moment word behind = if bytes_eq word (codes "advance") then one_of 
     else (if bytes_eq word (codes "status") then one_of ReadStatus behind
     else (if bytes_eq word (codes "list") then list_of behind else None))))
 
--- a word of neither `get`, `got` nor `meta`, and what stands behind it
+-- a word of none of `get`, `got`, `tagged`, `nostore`, `meta` and `command`, and what stands behind it
 unfoldable pub of_numbers : ℕ → List ℕ → List ℕ → Option Event
 of_numbers moment word behind = if bytes_eq word (codes "finish") then finish_of moment behind
     else (if bytes_eq word (codes "lost") then one_of (λ fetch. FetchEnd fetch outcome.Failed moment) behind
+    else (if bytes_eq word (codes "same") then one_of (λ fetch. FetchEnd fetch outcome.Unchanged moment) behind
     else (if bytes_eq word (codes "metafail") then one_of (λ refresh. RefreshEnd refresh None moment) behind
     else (if bytes_eq word (codes "log") then one_of LogFile behind
     else (if bytes_eq word (codes "droplog") then one_of DropLog behind
-    else of_triggers moment word behind))))
+    else of_triggers moment word behind)))))
 
 -- a call of one word
 unfoldable pub bare_of : ℕ → List ℕ → Option Event
@@ -251,10 +268,13 @@ unfoldable pub worded : ℕ → ℕ → List ℕ × List ℕ → Option Said
 worded pass moment word =
     if bytes_eq word.0 (codes "get") then option_map (on_pass pass) (option_map plain (get_of moment word.1))
     else (if bytes_eq word.0 (codes "got") then option_map (on_pass pass) (option_map plain (got_of moment word.1))
+    else (if bytes_eq word.0 (codes "tagged") then option_map (on_pass pass) (option_map plain (tagged_of moment word.1))
+    else (if bytes_eq word.0 (codes "nostore")
+    then option_map (on_pass pass) (option_map plain (unstored_of moment word.1))
     else (if bytes_eq word.0 (codes "meta") then option_map (on_pass pass) (meta_of moment word.1)
     else (if bytes_eq word.0 (codes "command")
     then Some (commanded pass moment (command_of own_id control_host word.1))
-    else option_map (on_pass pass) (option_map plain (of_numbers moment word.0 word.1)))))
+    else option_map (on_pass pass) (option_map plain (of_numbers moment word.0 word.1)))))))
 
 -- the pass's event, or else the other
 abbrev pub plainly_or : ℕ → Option Event → Option Said → Option Said
@@ -380,6 +400,43 @@ pub record SaysGot (moment : ℕ) (text : List ℕ) (said : Noted) : Type 0 wher
   pub coded : IsNumber status got.status
   pub named : IsKind kind got.kind
   pub filled : IsBody hex got.body
+  pub untagged : got.tag ≡ None
+  pub stored : IsTrue got.store
+  pub given : IsGot got
+  pub call : said ≡ plain (FetchEnd fetch (outcome.Got got) moment)
+
+-- tagged F KIND TAG HEX
+pub record SaysTagged (moment : ℕ) (text : List ℕ) (said : Noted) : Type 0 where
+  pub number : List ℕ
+  pub kind : List ℕ
+  pub tag : List ℕ
+  pub hex : List ℕ
+  pub fetch : ℕ
+  pub got : GotParts
+  pub words : IsWords (codes "tagged" ∷ number ∷ kind ∷ tag ∷ []) hex text
+  pub numbered : IsNumber number fetch
+  pub full : got.status ≡ 200
+  pub named : IsKind kind got.kind
+  pub tagged : (got.tag ≡ Some tag) × IsTag tag
+  pub stored : IsTrue got.store
+  pub filled : IsBody hex got.body
+  pub given : IsGot got
+  pub call : said ≡ plain (FetchEnd fetch (outcome.Got got) moment)
+
+-- nostore F KIND HEX
+pub record SaysUnstored (moment : ℕ) (text : List ℕ) (said : Noted) : Type 0 where
+  pub number : List ℕ
+  pub kind : List ℕ
+  pub hex : List ℕ
+  pub fetch : ℕ
+  pub got : GotParts
+  pub words : IsWords (codes "nostore" ∷ number ∷ kind ∷ []) hex text
+  pub numbered : IsNumber number fetch
+  pub full : got.status ≡ 200
+  pub named : IsKind kind got.kind
+  pub untagged : got.tag ≡ None
+  pub unstored : got.store ≡ false
+  pub filled : IsBody hex got.body
   pub given : IsGot got
   pub call : said ≡ plain (FetchEnd fetch (outcome.Got got) moment)
 
@@ -412,6 +469,10 @@ pub record SaysOne (word : List ℕ) (event : ℕ → Event) (text : List ℕ) (
 -- lost F
 abbrev pub SaysLost : ℕ → List ℕ → Noted → Type 0
 SaysLost moment = SaysOne (codes "lost") (λ fetch. FetchEnd fetch outcome.Failed moment)
+
+-- same F
+abbrev pub SaysSame : ℕ → List ℕ → Noted → Type 0
+SaysSame moment = SaysOne (codes "same") (λ fetch. FetchEnd fetch outcome.Unchanged moment)
 
 -- metafail R
 abbrev pub SaysMetafail : ℕ → List ℕ → Noted → Type 0

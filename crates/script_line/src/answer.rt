@@ -7,7 +7,7 @@ ghost use Rattle.script_line.specs.declared.grammar.TheConstants.{SPACE};
 ghost use Rattle.script_line.specs.declared.answer.TheConstants.{HEX_BLOCK, LINE_FEED};
 ghost use Rattle.hex.specs.Hex.{encode_lower};
 ghost use Rattle.trigger_status.specs.Job.{job_text, status_name};
-ghost use Rattle.script_line.specs.Answer.{kind_word, body_word, more_number, more_status, numbers_word, log_text, ended_text, numbered, endpoint_word, plan_text, cause_text, fault_text, failed_line, fetch_line, statuses_word, scripted_collection, trigger_line, refused_line, answer_line};
+ghost use Rattle.script_line.specs.Answer.{checked_words, kept_words, kind_word, body_word, more_number, more_status, numbers_word, log_text, ended_text, numbered, endpoint_word, plan_text, cause_text, fault_text, failed_line, fetch_line, statuses_word, scripted_collection, trigger_line, refused_line, answer_line};
 
 use crate::grammar::SPACE;
 use crate::own::{control_host, own_id};
@@ -69,6 +69,20 @@ pub fn put_reply_line(
             kind,
             body,
         } => put_hit(out, *delivery, *fetch, kind.bytes(), body.bytes()),
+        Reply::Check {
+            delivery,
+            fetch,
+            base,
+            kind,
+            tag,
+            body,
+            plan,
+        } => {
+            put_checked(out, *delivery, *fetch, *base)?;
+            put_kept(out, kind.bytes(), tag.bytes(), body.bytes())?;
+            put_plan(out, plan.as_slice())?;
+            put_byte(out, LINE_FEED)
+        }
         Reply::Ended { kept } => put(out, ended_text(*kept)),
         Reply::Full { count } => put_numbered(out, b"full", *count),
         Reply::NotOpen { number } => put_numbered(out, b"not-open", *number),
@@ -322,6 +336,30 @@ fn put_hit(
     put_byte(out, SPACE)?;
     put_body(out, body)?;
     put_byte(out, LINE_FEED)
+}
+
+// a delivery, its fetch and the base of that
+fn put_checked(out: &mut Vec<u8>, delivery: u64, fetch: u64, base: u64) -> Result<(), AllocError>
+    ensures { OnOk result (out.new.items ≡ out.old.items ++ checked_words delivery fetch base) }
+{
+    put(out, b"check ")?;
+    put_number(out, delivery)?;
+    put_byte(out, SPACE)?;
+    put_number(out, fetch)?;
+    put_byte(out, SPACE)?;
+    put_number(out, base)
+}
+
+// what is kept, behind a space: its content type, its tag and its body
+fn put_kept(out: &mut Vec<u8>, kind: &[u8], tag: &[u8], body: &[u8]) -> Result<(), AllocError>
+    ensures { OnOk result (out.new.items ≡ out.old.items ++ kept_words kind.now tag.now body.now) }
+{
+    put_byte(out, SPACE)?;
+    put_kind(out, kind)?;
+    put_byte(out, SPACE)?;
+    put(out, tag)?;
+    put_byte(out, SPACE)?;
+    put_body(out, body)
 }
 
 // the content type, or `-` where it is empty

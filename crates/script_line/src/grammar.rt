@@ -8,12 +8,13 @@ ghost use Rattle.hex.specs.Hex.{decode_of};
 ghost use Rattle.script_line.specs.declared.grammar.TheConstants.{SHORT_BODY};
 ghost use Rattle.listing.specs.Number.{number_of};
 ghost use Rattle.listing.specs.Word.{parts_at};
-ghost use Rattle.history.specs.Event.{event_of};
 ghost use Rattle.script_line.specs.Line.{said_of, on_pass, Gives, Reads, Said, Sets, Calls, TellsNoMemory};
 ghost use Rattle.script_line.specs.Own.{own_id, control_host};
 ghost use Rattle.trigger_command.specs.Reading.{command_of};
 ghost use Rattle.cdni_base.specs.declared.type_name.TheConstants.{TYPE_NAME_MAX};
-ghost use Rattle.script_line.specs.Grammar.{number_below, number_between, bounds_of, limits_of, bare_of, of_numbers, of_triggers, joined, filter_of, finish_of, got_of, content_of, kind_of, is_kind, is_graphic_byte, body_of, url_target, key_of_url, keys_of, is_token_byte, is_method, protocol_of, place_at, asked_of, get_of, refreshed, meta_of, plain, plainly_or, commands, commanded, worded, line_of, Says};
+ghost use Rattle.history.specs.Event.{event_of, FetchEnd};
+ghost use Rattle.upstream_gate.specs.Tag.{tag_of};
+ghost use Rattle.script_line.specs.Grammar.{full_of, tagged_of, unstored_of, number_below, number_between, bounds_of, limits_of, bare_of, of_numbers, of_triggers, joined, filter_of, finish_of, got_of, content_of, kind_of, is_kind, is_graphic_byte, body_of, url_target, key_of_url, keys_of, is_token_byte, is_method, protocol_of, place_at, asked_of, get_of, refreshed, meta_of, plain, plainly_or, commands, commanded, worded, line_of, Says};
 
 use crate::line::{ScriptFault, ScriptLine};
 use crate::own::{control_host, own_id};
@@ -30,7 +31,7 @@ use metadata_objects::{HostIndex, KeyList, MetaFault, Tree};
 use std::alloc::{AllocError, Global};
 use trigger_command::{Act, Command, CommandFault, IdList};
 use trigger_status::Filter;
-use upstream_gate::{Got, Outcome};
+use upstream_gate::{Got, Outcome, Tag};
 
 /// The byte between the words of a line.
 pub const SPACE: u8 = b' ';
@@ -206,6 +207,12 @@ fn read_worded(
     if word == b"got".as_slice() {
         return read_got(alloc, pass, moment, rest);
     }
+    if word == b"tagged".as_slice() {
+        return read_tagged(alloc, pass, moment, rest);
+    }
+    if word == b"nostore".as_slice() {
+        return read_unstored(alloc, pass, moment, rest);
+    }
     if word == b"meta".as_slice() {
         return read_meta(alloc, pass, moment, rest);
     }
@@ -215,7 +222,7 @@ fn read_worded(
     read_other(alloc, pass, moment, word, rest)
 }
 
-// the same of a word that is none of `get`, `got`, `meta` and `command`
+// the same of a word that is none of `get`, `got`, `tagged`, `nostore`, `meta` and `command`
 fn read_other(
     alloc: Global,
     pass: u32,
@@ -258,7 +265,7 @@ fn read_bare(moment: Moment, text: &[u8]) -> Option<Call>
     }
 }
 
-// a call of a word that is none of `get`, `got` and `meta`, and what stands behind it
+// a call of a word that is none of `get`, `got`, `tagged`, `nostore` and `meta`, and what stands behind it
 #[tactic(auto, unfolding(crate::specs::Grammar::of_numbers))]
 fn read_numbered(
     alloc: Global,
@@ -275,6 +282,13 @@ fn read_numbered(
         return Ok(Call::FetchEnd {
             fetch: read_number(rest)?,
             outcome: Outcome::Failed,
+            moment,
+        });
+    }
+    if word == b"same".as_slice() {
+        return Ok(Call::FetchEnd {
+            fetch: read_number(rest)?,
+            outcome: Outcome::Unchanged,
             moment,
         });
     }
@@ -494,15 +508,58 @@ fn read_got(
     let (status, rest) = cut(rest)?;
     let (kind, hex) = cut(rest)?;
     let got = read_content(alloc, status, kind, hex)?;
-    Ok(ScriptLine::Call {
+    Ok(line_of_got(pass, fetch, got, moment))
+}
+
+// F KIND TAG HEX: content that can be stored, with this tag
+#[tactic(auto, unfolding(crate::specs::Grammar::tagged_of))]
+fn read_tagged(
+    alloc: Global,
+    pass: u32,
+    moment: Moment,
+    text: &[u8],
+) -> Result<ScriptLine, ScriptFault>
+    ensures { Reads result (option_map (on_pass pass) (option_map plain (tagged_of moment text.now))) }
+{
+    let (fetch, rest) = cut(text)?;
+    let fetch = read_number(fetch)?;
+    let (kind, rest) = cut(rest)?;
+    let (tag, hex) = cut(rest)?;
+    let tag = read_tag(alloc, tag)?;
+    let got = read_full(alloc, kind, Some(tag), true, hex)?;
+    Ok(line_of_got(pass, fetch, got, moment))
+}
+
+// F KIND HEX: content that is not to be stored, without a tag
+#[tactic(auto, unfolding(crate::specs::Grammar::unstored_of))]
+fn read_unstored(
+    alloc: Global,
+    pass: u32,
+    moment: Moment,
+    text: &[u8],
+) -> Result<ScriptLine, ScriptFault>
+    ensures { Reads result (option_map (on_pass pass) (option_map plain (unstored_of moment text.now))) }
+{
+    let (fetch, rest) = cut(text)?;
+    let fetch = read_number(fetch)?;
+    let (kind, hex) = cut(rest)?;
+    let got = read_full(alloc, kind, None, false, hex)?;
+    Ok(line_of_got(pass, fetch, got, moment))
+}
+
+// the end of a fetch with this content
+fn line_of_got(pass: u32, fetch: u64, got: Got, moment: Moment) -> ScriptLine
+    ensures said { said_of result ≡ Calls (pass, plain (FetchEnd fetch (Outcome.Got got) moment)) }
+    ensures no_memory { TellsNoMemory result }
+{
+    line_of_call(
         pass,
-        call: Call::FetchEnd {
+        Call::FetchEnd {
             fetch,
             outcome: Outcome::Got(got),
             moment,
         },
-        note: None,
-    })
+    )
 }
 
 // D STATUS TOTAL ENTITY
@@ -526,7 +583,7 @@ fn read_finish(moment: Moment, text: &[u8]) -> Result<Call, ScriptFault>
     })
 }
 
-// the content of a status, a content type and a body
+// the content of a status, a content type and a body, which can be stored and has no tag
 #[tactic(auto, unfolding(crate::specs::Grammar::content_of))]
 fn read_content(alloc: Global, status: &[u8], kind: &[u8], hex: &[u8]) -> Result<Got, ScriptFault>
     ensures { Gives (λ got. got) result (content_of status.now kind.now hex.now) }
@@ -534,7 +591,30 @@ fn read_content(alloc: Global, status: &[u8], kind: &[u8], hex: &[u8]) -> Result
     let status = read_below(65536, status)?;
     let kind = read_kind(alloc, kind)?;
     let body = read_body(alloc, hex)?;
-    Got::new(status as u16, kind, body).ok_or(ScriptFault::NotALine)
+    Got::new(status as u16, kind, None, true, body).ok_or(ScriptFault::NotALine)
+}
+
+// the content of status 200 of a content type, a tag and a body
+#[tactic(auto, unfolding(crate::specs::Grammar::full_of))]
+fn read_full(
+    alloc: Global,
+    kind: &[u8],
+    tag: Option<Tag>,
+    store: bool,
+    hex: &[u8],
+) -> Result<Got, ScriptFault>
+    ensures { Gives (λ got. got) result (full_of kind.now tag store hex.now) }
+{
+    let kind = read_kind(alloc, kind)?;
+    let body = read_body(alloc, hex)?;
+    Got::new(200, kind, tag, store, body).ok_or(ScriptFault::NotALine)
+}
+
+// an entity tag, with its quotes
+fn read_tag(alloc: Global, word: &[u8]) -> Result<Tag, ScriptFault>
+    ensures { Gives (λ tag. tag) result (tag_of word.now) }
+{
+    Tag::of(alloc, word)?.ok_or(ScriptFault::NotALine)
 }
 
 // a content type, where `-` is the empty one

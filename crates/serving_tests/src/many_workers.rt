@@ -144,7 +144,7 @@ struct HeldGate {
 // content with this body; none for want of memory
 fn content(alloc: Global, kind: &[u8], body: &[u8]) -> Option<Got> {
     let kind = TypeName::of(alloc, kind).ok()??;
-    Got::new(200, kind, Body::of(alloc, body).ok()?)
+    Got::new(200, kind, None, true, Body::of(alloc, body).ok()?)
 }
 
 impl Gate for HeldGate {

@@ -93,7 +93,7 @@ struct TableGate {
 // an answer of this kind and body; none for want of memory
 fn got(alloc: Global, kind: &[u8], body: &[u8]) -> Option<Got> {
     let kind = TypeName::of(alloc, kind).ok()??;
-    Got::new(200, kind, Body::of(alloc, body).ok()?)
+    Got::new(200, kind, None, true, Body::of(alloc, body).ok()?)
 }
 
 // the document at this path

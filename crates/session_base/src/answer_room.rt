@@ -168,7 +168,7 @@ fn put_gateway(text: &mut Scratch, outcome: &Outcome)
         Outcome::Malformed { taken } => put_counted(text, b"gateway malformed ", *taken),
         Outcome::Cut { taken } => put_counted(text, b"gateway cut ", *taken),
         Outcome::Failed => put_words(text, b"gateway failed\n"),
-        Outcome::Got(_) | Outcome::Memory => put_words(text, b"\n"),
+        Outcome::Got(_) | Outcome::Unchanged | Outcome::Memory => put_words(text, b"\n"),
     }
 }
 

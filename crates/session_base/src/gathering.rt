@@ -1,6 +1,7 @@
 //! Asking for content and for metadata.
 
-ghost use Rattle.std.specs.Prelude.{◌≡◌, ◌≤◌, ◌↔◌, List, IsTrue};
+ghost use Rattle.std.specs.Prelude.{◌≡◌, ◌≤◌, ◌↔◌, List, IsSome, IsTrue};
+ghost use Rattle.std.specs.Option.{option_map};
 ghost use Rattle.edge_base.specs.Causes.{Rose};
 ghost use Rattle.edge_base.specs.Clock.{Grows};
 ghost use Rattle.session_base.specs.Gathering.{Gathers};
@@ -11,19 +12,27 @@ use cdni_base::{EndpointList, Target};
 use metadata_links::LinkFault;
 use metadata_objects::Tree;
 use std::alloc::{AllocError, Global};
-use upstream_gate::{Gate, Outcome, fetch_plan};
+use upstream_gate::{Gate, Outcome, Tag, fetch_plan};
 
-/// Asks the endpoints of the plan in order; a plan without one, which no node gives, counts as want of memory.
-pub fn ask<G: Gate>(alloc: Global, gate: &mut G, plan: &EndpointList, target: &Target) -> Outcome
+/// Asks the endpoints of the plan in order, each with the tag where there is one; a plan without an endpoint, which no node
+/// gives, counts as want of memory.
+pub fn ask<G: Gate>(
+    alloc: Global,
+    gate: &mut G,
+    plan: &EndpointList,
+    target: &Target,
+    tag: Option<&Tag>,
+) -> Outcome
     ensures asked { (made : List Exchange) × Grows (G.exchanges gate.old) (G.exchanges gate.new) made
-        × Asked (origin_form target.now) plan.now made result }
+        × Asked (origin_form target.now) (option_map (λ tag. tag.now) tag.entry) plan.now made result }
+    ensures unchanged { result ≡ Outcome.Unchanged → IsSome (option_map (λ tag. tag.now) tag.entry) }
     ensures later { G.faults gate.old ≤ G.faults gate.new }
     ensures failed { result ≡ Outcome.Failed → Rose (G.faults gate.old) (G.faults gate.new) }
 {
     if plan.len() == 0 {
         return Outcome::Memory;
     }
-    fetch_plan(alloc, gate, plan, target)
+    fetch_plan(alloc, gate, plan, target, tag)
 }
 
 /// Gathers the metadata from the root document (RFC 8006, section 6.3); none where the gathering has a fault.

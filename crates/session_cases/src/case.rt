@@ -13,7 +13,7 @@ use session::{AdvertSettings, Settings};
 use std::alloc::{AllocError, Global};
 use std::sync::Wait;
 use std::thread::Threads;
-use upstream_gate::{Got, MemoryGate, Outcome, OutcomeList};
+use upstream_gate::{Got, MemoryGate, Outcome, OutcomeList, Tag};
 
 fn limits_of(value: &Value) -> anyhow::Result<Limits> {
     let cache = field::number(value, "cache")?;
@@ -40,13 +40,31 @@ fn limits_of(value: &Value) -> anyhow::Result<Limits> {
     })
 }
 
+// The entity tag of an outcome, where it has one.
+fn tag_of(alloc: Global, value: &Value) -> anyhow::Result<Option<Tag>> {
+    let Some(tag) = value.get("tag") else {
+        return Ok(None);
+    };
+    match Tag::of(alloc, &field::bytes_of(alloc, tag)?)? {
+        Some(tag) => Ok(Some(tag)),
+        None => bail!("a tag is none"),
+    }
+}
+
 fn got_of(alloc: Global, value: &Value) -> anyhow::Result<Outcome> {
     let kind = field::bytes(alloc, value, "kind")?;
     let Some(kind) = TypeName::of(alloc, &kind)? else {
         bail!("a type is too long");
     };
     let body = Body::of(alloc, &field::bytes(alloc, value, "body")?)?;
-    match Got::new(field::short(value, "status")?, kind, body) {
+    let tag = tag_of(alloc, value)?;
+    match Got::new(
+        field::short(value, "status")?,
+        kind,
+        tag,
+        field::is_stored(value)?,
+        body,
+    ) {
         Some(got) => Ok(Outcome::Got(got)),
         None => bail!("an outcome is none"),
     }
@@ -55,6 +73,7 @@ fn got_of(alloc: Global, value: &Value) -> anyhow::Result<Outcome> {
 fn outcome_of(alloc: Global, value: &Value) -> anyhow::Result<Outcome> {
     Ok(match field::text(value, "outcome")? {
         "Got" => got_of(alloc, value)?,
+        "Unchanged" => Outcome::Unchanged,
         "Refused" => Outcome::Refused {
             status: field::short(value, "status")?,
         },

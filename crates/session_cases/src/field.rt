@@ -41,6 +41,17 @@ pub fn short(value: &Value, name: &str) -> anyhow::Result<u16> {
     }
 }
 
+// Whether content may be stored: it may where that is not told.
+pub fn is_stored(value: &Value) -> anyhow::Result<bool> {
+    match value.get("store") {
+        None => Ok(true),
+        Some(store) => match store.as_bool() {
+            Some(store) => Ok(store),
+            None => bail!("a field is no truth value"),
+        },
+    }
+}
+
 // The items of a list.
 pub fn list_of(value: &Value) -> anyhow::Result<&[Value]> {
     match value.as_array() {

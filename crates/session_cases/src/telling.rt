@@ -23,7 +23,7 @@ pub struct TellingHome<H: Home> {
 // how many deliveries this reply begins
 fn begun_by(reply: &Reply) -> u64 {
     match reply {
-        Reply::Denied { .. } | Reply::Hit { .. } | Reply::Miss { .. } => 1,
+        Reply::Denied { .. } | Reply::Hit { .. } | Reply::Miss { .. } | Reply::Check { .. } => 1,
         _ => 0,
     }
 }

@@ -42,8 +42,13 @@ fn put_outcome(alloc: Global, out: &mut Vec<u8>, outcome: &Outcome) -> Result<()
         Outcome::Got(got) => {
             put_word(out, b"Got")?;
             put_number(alloc, out, u64::from(got.status()))?;
-            put_number(alloc, out, got.body().bytes().len() as u64)
+            put_number(alloc, out, got.body().bytes().len() as u64)?;
+            if let Some(tag) = got.tag() {
+                put_word(out, tag.bytes())?;
+            }
+            put_storing(out, got.store())
         }
+        Outcome::Unchanged => put_word(out, b"Unchanged"),
         Outcome::Refused { status } => {
             put_word(out, b"Refused")?;
             put_number(alloc, out, u64::from(*status))
@@ -62,6 +67,15 @@ fn put_outcome(alloc: Global, out: &mut Vec<u8>, outcome: &Outcome) -> Result<()
         }
         Outcome::Failed => put_word(out, b"Failed"),
         Outcome::Memory => put_word(out, b"Memory"),
+    }
+}
+
+// Adds that content is not to be stored, where it is not.
+fn put_storing(out: &mut Vec<u8>, is_stored: bool) -> Result<(), AllocError> {
+    if is_stored {
+        Ok(())
+    } else {
+        put_word(out, b"not stored")
     }
 }
 
@@ -269,6 +283,9 @@ fn put_endpoint(alloc: Global, out: &mut Vec<u8>, endpoint: &Endpoint) -> Result
 pub fn put_ask(alloc: Global, out: &mut Vec<u8>, ask: &Ask) -> Result<(), AllocError> {
     put_endpoint(alloc, out, &ask.endpoint)?;
     put_word(out, ask.target.bytes())?;
+    if let Some(tag) = &ask.tag {
+        put_word(out, tag.bytes())?;
+    }
     out.extend_from_slice(b"\n")
 }
 
@@ -305,6 +322,10 @@ fn put_told_outcome(alloc: Global, out: &mut Vec<u8>, told: &Value) -> anyhow::R
             put_field(alloc, out, told, name)?;
         }
     }
+    if told.get("tag").is_some() {
+        put_bytes(alloc, out, told, "tag")?;
+    }
+    put_storing(out, field::is_stored(told)?)?;
     Ok(())
 }
 
@@ -428,13 +449,15 @@ pub fn told_calls(alloc: Global, connection: &Value) -> anyhow::Result<Vec<u8>> 
 pub fn told_asks(alloc: Global, connection: &Value) -> anyhow::Result<Vec<u8>> {
     let mut out = Vec::new(alloc);
     for ask in field::list(connection, "asks")? {
-        let [endpoint, target] = field::list_of(ask)? else {
-            bail!("an ask is a pair");
+        let [endpoint, words @ ..] = field::list_of(ask)? else {
+            bail!("an ask is without an endpoint");
         };
         let endpoint = field::bytes_of(alloc, endpoint)?;
         out.extend_from_slice(&endpoint)?;
-        let target = field::bytes_of(alloc, target)?;
-        put_word(&mut out, &target)?;
+        for word in words {
+            let word = field::bytes_of(alloc, word)?;
+            put_word(&mut out, &word)?;
+        }
         out.extend_from_slice(b"\n")?;
     }
     Ok(out)

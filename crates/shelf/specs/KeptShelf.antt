@@ -1,50 +1,83 @@
 -- What is kept of fetches, and the fetches that are open.
-use Rattle.std.specs.Prelude.{◌≡◌, ℕ, ◌+◌, ◌≤◌, max, min, nat_le, Bool, true, false, not, ◌||◌, ◌⊎◌, take, All, Contains, List, ◌∷◌, [], ◌++◌, filter, length, map, None, Some, is_some}
-use Rattle.std.specs.Option.{option_map}
+use Rattle.std.specs.Prelude.{◌≡◌, ℕ, ◌+◌, ◌≤◌, min, Bool, true, false, not, ◌||◌, ◌⊎◌, take, All, Contains, List, ◌∷◌, [], ◌++◌, length, option_to_list, map, None, Some, is_some, sum_by, if◌then◌else◌}
+use Rattle.std.specs.List.{filter_map}
+use Rattle.std.specs.Option.{option_map, option_map_or}
 use Rattle.std.specs.declared.option.Option.{Option}
-use Rattle.epochs.specs.EpochsList.{Known, is_stale, past}
+use Rattle.cdni_base.specs.Key.{KeyParts, same_key}
+use Rattle.epochs.specs.EpochsList.{is_stale, past}
 use Rattle.epochs.specs.declared.epochs_list.Start.{Start}
-use Rattle.object_cache.specs.ObjectTable as objects
 use Rattle.object_cache.specs.declared.object.Object.{Object}
 use Rattle.trigger_command.specs.Selection.{hits}
 use Rattle.trigger_command.specs.declared.selection.Selection.{Selection}
+use Rattle.trigger_command.specs.declared.spec.TriggerKind.{TriggerKind}
+use Rattle.trigger_command.specs.declared.spec.TriggerKind.TheVariants.{Invalidate, Purge}
 use Rattle.upstream_gate.specs.declared.outcome.Outcome.{Outcome}
-use Rattle.history.specs.Kept.{gained, with_gained}
+use Rattle.history.specs.Kept.{confirmed, gained, kept_of, left_by, with_confirmed, with_gained}
 use Rattle.history.specs.World.{Kept}
 use Rattle.history.specs.declared.begun.Fetching.{Fetching}
+use Rattle.shelf.specs.MarkedTable.{Marked, Stocked}
 use Rattle.shelf.specs.Open.{AreRising, AreUpTo, unnamed}
-use Rattle.shelf.specs.declared.open.Open.{Open}
+use Rattle.shelf.specs.Sweeping.{AreTried, AreUpToEpoch, kept_in, kept_object}
+use Rattle.shelf.specs.Trials.{IsAimed}
 use Rattle.shelf.specs.declared.kept_shelf.Flight.{Flight}
 use Rattle.shelf.specs.declared.kept_shelf.Launched.{Launched}
+use Rattle.shelf.specs.declared.kept_shelf.Shown.{Shown}
+use Rattle.shelf.specs.declared.open.Open.{Open}
+use Rattle.shelf.specs.declared.trials.Trials.{Trials}
+
+-- what is in memory of what a fetch, the origin, brought
+pub record Held : Type 0 where
+  pub origin : ℕ
+  pub key : KeyParts
+  pub ccid : Option (List ℕ)
+  pub body : List ℕ
 
 -- the most bytes that are kept, the kept objects, the least recently used first, what is in memory: the kept objects and
--- those that starts have hit and that have not left yet; the open fetches, in order, how many were opened, and how many
--- triggers started
+-- those that starts have taken back and that have not left yet; the open fetches, in order, how many were opened, and how
+-- many triggers started
 pub record ShelfView : Type 0 where
   pub limit : ℕ
   pub kept : List Kept
-  pub held : List Kept
+  pub held : List Held
   pub fetches : List (Open Flight)
   pub fetched : ℕ
   pub starts : ℕ
 
--- what an object of the table is
-abbrev pub kept_object : Object → Kept
-kept_object object = record {
-  fetch = object.fetch;
-  key = object.key;
-  ccid = object.ccid;
-  kind = object.kind;
-  body = object.body;
+-- what is in memory of a kept object
+abbrev pub held_of : Kept → Held
+held_of kept = record { origin = kept.origin; key = kept.key; ccid = kept.ccid; body = kept.body }
+
+-- what is in memory of an object of the table
+abbrev pub held_object : Marked → Held
+held_object one = record {
+  origin = one.object.fetch;
+  key = one.object.key;
+  ccid = one.object.ccid;
+  body = one.object.body;
 }
 
+abbrev pub held_size : Held → ℕ
+held_size held = length held.body
+
+-- the lengths of these together
+abbrev pub total_held : List Held → ℕ
+total_held all = sum_by held_size all
+
 -- nothing of these is new
-abbrev pub IsPartOf : List Kept → List Kept → Type 0
+abbrev pub IsPartOf : List Held → List Held → Type 0
 IsPartOf new old = All (Contains old) new
 
 -- nothing of these is new but what is kept
-abbrev pub IsPartOfOrKept : List Kept → List Kept → List Kept → Type 0
-IsPartOfOrKept new old kept = All (λ one. Contains old one ⊎ Contains kept one) new
+abbrev pub IsPartOfOrKept : List Held → List Held → List Kept → Type 0
+IsPartOfOrKept new old kept = All (λ one. Contains old one ⊎ Contains (map held_of kept) one) new
+
+-- what is shown of a kept object
+abbrev pub shown_as : Shown → Kept
+shown_as shown = kept_object (record { object = shown.object.now; mark = shown.mark.now }) shown.doubtful
+
+-- something is kept that is not doubtful
+abbrev pub is_sound : Option Kept → Bool
+is_sound found = option_map_or (λ kept. not kept.doubtful) found false
 
 abbrev pub opened : ShelfView → ℕ → Fetching → ShelfView
 opened s pass fetching = record s {
@@ -56,16 +89,26 @@ opened s pass fetching = record s {
   fetched = s.fetched + 1;
 }
 
+-- ---- the end of a fetch
+
 -- what is kept of an open fetch that ended so
 abbrev pub gain : ℕ → List Kept → Open Flight → Outcome → Option Kept
 gain limit kept flight outcome =
     gained limit flight.what.hit kept flight.number flight.what.fetching outcome
 
+-- what an open fetch confirms that ended so: what is kept under its key, where that is of the fetch that it asks for
+abbrev pub confirmation : List Kept → Open Flight → Outcome → Option Kept
+confirmation kept flight outcome =
+    confirmed flight.what.hit (option_to_list (kept_of flight.what.fetching.key kept)) flight.what.fetching outcome
+
+-- it brings or confirms something
 abbrev pub is_gained : ℕ → List Kept → Open Flight → Outcome → Bool
-is_gained limit kept flight outcome = is_some (gain limit kept flight outcome)
+is_gained limit kept flight outcome =
+    is_some (gain limit kept flight outcome) || is_some (confirmation kept flight outcome)
 
 abbrev pub brought : ℕ → List Kept → Open Flight → Outcome → List Kept
-brought limit kept flight outcome = with_gained limit kept (gain limit kept flight outcome)
+brought limit kept flight outcome = with_confirmed flight.number
+    (with_gained limit kept (gain limit kept flight outcome)) (confirmation kept flight outcome)
 
 abbrev pub end_reply : ShelfView → Outcome → Option (Open Flight) → Option Bool
 end_reply s outcome flight = option_map (λ one. is_gained s.limit s.kept one outcome) flight
@@ -83,9 +126,17 @@ end_after s pass fetch outcome (Some flight) = record s {
 abbrev pub content_of : Selection → Selection
 content_of selection = record selection { metadata_urls = []; metadata_patterns = [] }
 
--- what its selection does not hit stays (RFC 8007, section 5.2.1)
-abbrev pub unhit : Selection → List Kept → List Kept
-unhit selection kept = filter (λ one. not (hits selection one.key one.ccid)) kept
+-- a purge or an invalidate (RFC 8007, section 5.2.2)
+abbrev pub kind_of : Bool → TriggerKind
+kind_of true = Purge
+kind_of false = Invalidate
+
+-- what is left of a kept object
+abbrev pub left_of : Bool → Selection → Kept → Option Kept
+left_of purge selection one = if hits selection one.key one.ccid then left_by (kind_of purge) one else Some one
+
+abbrev pub left_after : Bool → Selection → List Kept → List Kept
+left_after purge selection kept = filter_map (left_of purge selection) kept
 
 -- a start has hit it, or this one does
 abbrev pub is_struck : Selection → Flight → Bool
@@ -98,32 +149,14 @@ struck_flight selection flight = record flight { hit = is_struck selection fligh
 abbrev pub struck : Selection → Open Flight → Open Flight
 struck selection one = record one { what = struck_flight selection one.what }
 
-abbrev pub start_after : ShelfView → Selection → ShelfView
-start_after s selection = record s {
-  kept = unhit selection s.kept;
+abbrev pub start_after : ShelfView → Bool → Selection → ShelfView
+start_after s purge selection = record s {
+  kept = left_after purge selection s.kept;
   fetches = map (struck selection) s.fetches;
   starts = s.starts + 1;
 }
 
--- ---- what starts have hit, of what is in the table and open
-
--- a start has hit the object, of those after the last one when its fetch was opened and after the last one with which all
--- objects were tried
-abbrev pub is_gone : List Start → ℕ → Object → Bool
-is_gone starts noted object = is_stale starts (max object.begun noted) object.key object.ccid
-
--- no start is left that was not tried on an object of the table since its fetch was opened or it was used
-abbrev pub was_tried : ℕ → Option Object → Bool
-was_tried newest None = true
-was_tried newest (Some object) = nat_le newest object.begun
-
--- of the starts that these have not all been tried with, those up to this one were, and hit none of them
-abbrev pub AreTried : List Start → ℕ → ℕ → List Object → Type 0
-AreTried starts noted aimed objects = All (λ object. is_gone starts noted object ≡ is_gone starts aimed object) objects
-
--- the other objects are kept
-abbrev pub kept_in : List Start → ℕ → List Object → List Kept
-kept_in starts noted objects = map kept_object (filter (λ object. not (is_gone starts noted object)) objects)
+-- ---- what is open
 
 -- a start has hit what an open fetch fetches
 abbrev pub is_hit : List Start → Launched → Bool
@@ -137,13 +170,6 @@ flight_of starts one = record {
   what = record { fetching = one.what.fetching; hit = is_hit starts one.what };
 }
 
--- ---- which starts are known
-
--- the fetches of these objects were opened before a start after this one
-abbrev pub AreUpToEpoch : ℕ → List Object → Type 0
-AreUpToEpoch newest [] = Unit {0}
-AreUpToEpoch newest (object ∷ objects) = (object.begun ≤ newest) × AreUpToEpoch newest objects
-
 -- the last starts when they were opened do not fall, and are between these
 abbrev pub AreBegun : ℕ → ℕ → List (Open Launched) → Type 0
 AreBegun low high [] = low ≤ high
@@ -154,21 +180,29 @@ abbrev pub least_begun : ℕ → List (Open Launched) → ℕ
 least_begun newest [] = newest
 least_begun newest (one ∷ others) = min one.what.begun (least_begun newest others)
 
--- the last start that no open fetch has to be tried with, nor, where there is an object, the objects
-abbrev pub least_needed : ℕ → ℕ → List Object → List (Open Launched) → ℕ
-least_needed newest noted [] flights = least_begun newest flights
-least_needed newest noted (object ∷ objects) flights = min (least_begun newest flights) noted
+-- the last start that no object has to be tried with, where there is one, nor anything else has that needs those after this
+abbrev pub least_needed : ℕ → ℕ → List Marked → ℕ
+least_needed oldest noted [] = oldest
+least_needed oldest noted (one ∷ items) = min oldest noted
+
+-- the marks of these fetches will stand under the keys of what they fetch
+abbrev pub AreKeyed : List (Open Launched) → Type 0
+AreKeyed flights = All (λ one. one.what.key ≡ one.what.fetching.key) flights
 
 -- Each open fetch has a place in the table. Their numbers rise up to the count, and the starts when they were opened do
 -- not fall. A start is known only while an open fetch was opened before it, or objects have not been tried with it. A walk
--- tries each object with the starts up to the one that it aims at.
-pub record IsShelf (table : objects.Kept) (flights : List (Open Launched)) (fetched : ℕ) (known : Known) (noted aimed : ℕ)
-    : Type 0 where
-  pub room : length flights ≤ table.spare
+-- tries each object with the starts up to the ones that it aims at.
+pub record IsShelf (stock : Stocked) (flights : List (Open Launched)) (fetched : ℕ) (starts purges : Trials) : Type 0 where
+  pub room : length flights ≤ stock.spare
   pub numbered : AreUpTo fetched flights
   pub rising : AreRising 0 flights
-  pub begun : AreBegun 0 known.newest flights
-  pub up_to : AreUpToEpoch known.newest table.objects
-  pub aim : (noted ≤ aimed) × (aimed ≤ known.newest)
-  pub tried : AreTried known.starts noted aimed (take table.passed table.objects)
-  pub settled : past (least_needed known.newest noted table.objects flights) known.starts ≡ known.starts
+  pub keyed : AreKeyed flights
+  pub begun : AreBegun 0 starts.epochs.known.newest flights
+  pub fewer : purges.epochs.known.newest ≤ starts.epochs.known.newest
+  pub up_to : AreUpToEpoch starts.epochs.known.newest purges.epochs.known.newest stock.items
+  pub aims : IsAimed starts × IsAimed purges
+  pub tried : AreTried starts purges (take stock.passed stock.items)
+  pub settled : past (least_needed (least_begun starts.epochs.known.newest flights) starts.noted stock.items)
+      starts.epochs.known.starts ≡ starts.epochs.known.starts
+  pub purges_settled : past (least_needed purges.epochs.known.newest purges.noted stock.items) purges.epochs.known.starts
+      ≡ purges.epochs.known.starts

@@ -8,6 +8,8 @@ mod items;
 mod objects;
 mod plain_shelf;
 #[cfg(test)]
+mod revalidation;
+#[cfg(test)]
 mod tests;
 
-pub use plain_shelf::PlainShelf;
+pub use plain_shelf::{PlainKept, PlainShelf};

@@ -94,6 +94,7 @@ fn ask_of(alloc: Global, host: &str, port: u16) -> Result<Ask, Fail> {
             .ok()
             .ok_or("endpoint")?,
         target: Text::of(alloc, b"/a?b")?,
+        tag: None,
     })
 }
 

@@ -116,12 +116,13 @@ impl Got {
         &self.body
     }
 
-    /// The content type and the body, moved out.
-    pub fn into_parts(self) -> (TypeName, Body)
+    /// The content type, the entity tag and the body, moved out.
+    pub fn into_parts(self) -> (TypeName, Option<Tag>, Body)
         ensures kind { result.0 ≡ self.kind }
-        ensures body { result.1 ≡ self.body }
+        ensures tag { result.1 ≡ self.tag }
+        ensures body { result.2 ≡ self.body }
     {
-        (self.kind, self.body)
+        (self.kind, self.tag, self.body)
     }
 
     /// The same, whose body is shared.

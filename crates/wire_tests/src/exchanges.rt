@@ -11,6 +11,7 @@ fn ask_of(alloc: Global, endpoint: &[u8]) -> Result<Ask, Fail> {
         Ok(endpoint) => Ok(Ask {
             endpoint,
             target: Text::of(alloc, b"/a?b")?,
+            tag: None,
         }),
         Err(_) => Err(Fail::from("an endpoint")),
     }

@@ -68,7 +68,7 @@ fn outcome_with(alloc: Global, status: u16, bytes: &[u8]) -> Result<Outcome, Fai
     let Some(kind) = TypeName::of(alloc, b"application/json")? else {
         return Err(Fail::from("a short name"));
     };
-    match Got::new(status, kind, Body::of(alloc, bytes)?) {
+    match Got::new(status, kind, None, true, Body::of(alloc, bytes)?) {
         Some(got) => Ok(Outcome::Got(got)),
         None => Err(Fail::from("a status")),
     }

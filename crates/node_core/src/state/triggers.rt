@@ -1,6 +1,6 @@
 //! The calls of triggers (RFC 8007): commands, their steps, cancels and deletes, and what reads them.
 
-ghost use Rattle.std.specs.Prelude.{◌≡◌, ◌+◌, ◌≤◌, ◌^◌, ℕ, true, IfOk, OnErr, OnOk};
+ghost use Rattle.std.specs.Prelude.{◌≡◌, ◌+◌, ◌≤◌, ◌^◌, ℕ, map, true, IfOk, OnErr, OnOk};
 ghost use Rattle.std.specs.Option.{option_map};
 ghost use Rattle.delivery_core.specs.OpenCount.{begun_count, open_count};
 ghost use Rattle.history.specs.Event.{History, Command, Advance, Cancel, Delete, ReadStatus, Lists};
@@ -10,7 +10,7 @@ ghost use Rattle.node_core.specs.Answers.{answers_advance, answers_cancel, answe
 ghost use Rattle.node_core.specs.State.{Follows, Says};
 ghost use Rattle.history.specs.declared.reply.Reply.TheVariants as reply;
 ghost use Rattle.node_core.specs.Triggering.{cancel_reply, completes_purge, delete_reply, is_purge, skipped_state, started_by, status_reply, swept_by, url_of};
-ghost use Rattle.shelf.specs.KeptShelf.{IsPartOfOrKept};
+ghost use Rattle.shelf.specs.KeptShelf.{IsPartOfOrKept, held_of};
 ghost use Rattle.trigger_table.specs.State.{next_step};
 ghost use Rattle.trigger_table.specs.declared.step.Step.TheVariants as step;
 
@@ -70,7 +70,7 @@ impl State {
         ensures places { IfOk result (λ r. open_count self.new.seen.edge ≤ open_count self.old.seen.edge + begun_count r) }
         ensures held { IsPartOfOrKept self.new.held self.old.held self.new.seen.edge.kept }
         ensures swept { IfOk result (λ r. completes_purge self.old.seen.control.triggers.triggers (Advance id moment) r ≡ true
-            → self.new.held ≡ self.new.seen.edge.kept) }
+            → self.new.held ≡ map held_of self.new.seen.edge.kept) }
         ensures err { OnErr result (self.new ≡ self.old) }
     {
         match self.control.next_step(pass, id) {
@@ -101,7 +101,7 @@ impl State {
         ensures places { IfOk result (λ r. open_count self.new.seen.edge ≤ open_count self.old.seen.edge + begun_count r) }
         ensures held { self.new.held ≡ self.old.held }
         ensures swept { IfOk result (λ r. completes_purge self.old.seen.control.triggers.triggers (Advance id moment) r ≡ true
-            → self.new.held ≡ self.new.seen.edge.kept) }
+            → self.new.held ≡ map held_of self.new.seen.edge.kept) }
         ensures err { OnErr result (self.new ≡ self.old) }
     {
         if self.opened == self.edge.limits().opened {
@@ -129,7 +129,7 @@ impl State {
         ensures places { IfOk result (λ r. open_count self.new.seen.edge ≤ open_count self.old.seen.edge + begun_count r) }
         ensures held { self.new.held ≡ self.old.held }
         ensures swept { IfOk result (λ r. completes_purge self.old.seen.control.triggers.triggers (Advance id moment) r ≡ true
-            → self.new.held ≡ self.new.seen.edge.kept) }
+            → self.new.held ≡ map held_of self.new.seen.edge.kept) }
         ensures err { OnErr result (self.new ≡ self.old) }
     {
         if self.opened == self.edge.limits().opened {
@@ -164,7 +164,7 @@ impl State {
         ensures places { IfOk result (λ r. open_count self.new.seen.edge ≤ open_count self.old.seen.edge + begun_count r) }
         ensures held { self.new.held ≡ self.old.held }
         ensures swept { IfOk result (λ r. completes_purge self.old.seen.control.triggers.triggers (Advance id moment) r ≡ true
-            → self.new.held ≡ self.new.seen.edge.kept) }
+            → self.new.held ≡ map held_of self.new.seen.edge.kept) }
         ensures err { OnErr result (self.new ≡ self.old) }
     {
         let Some(target) = url_of(self.control.job(id), place)? else {
@@ -214,7 +214,7 @@ impl State {
         ensures heading { self.new.seen.heading ≡ self.old.seen.heading }
         ensures same { self.new.seen.edge ≡ self.old.seen.edge }
         ensures held { IsPartOfOrKept self.new.held self.old.held self.new.seen.edge.kept }
-        ensures swept { is_purge id self.old.seen.control.triggers.triggers ≡ true → self.new.held ≡ self.new.seen.edge.kept }
+        ensures swept { is_purge id self.old.seen.control.triggers.triggers ≡ true → self.new.held ≡ map held_of self.new.seen.edge.kept }
     {
         sweep_after(&mut self.edge, self.control.job(id));
         self.control.step_done(id, pass, moment);
@@ -226,7 +226,7 @@ impl State {
         ensures reply { result ≡ reply.Final status }
         ensures seen { self.new.seen ≡ self.old.seen }
         ensures held { IsPartOfOrKept self.new.held self.old.held self.new.seen.edge.kept }
-        ensures swept { is_purge id self.old.seen.control.triggers.triggers ≡ true → self.new.held ≡ self.new.seen.edge.kept }
+        ensures swept { is_purge id self.old.seen.control.triggers.triggers ≡ true → self.new.held ≡ map held_of self.new.seen.edge.kept }
     {
         sweep_after(&mut self.edge, self.control.job(id));
         Reply::Final { status }
@@ -298,9 +298,8 @@ fn start_by(alloc: Global, edge: &mut Edge, job: Option<&Job>) -> Result<(), All
     };
     match job.spec.kind {
         TriggerKind::Preposition => Ok(()),
-        TriggerKind::Invalidate | TriggerKind::Purge => {
-            edge.start(alloc, job.id, &job.spec.selection)
-        }
+        TriggerKind::Invalidate => edge.start(alloc, job.id, false, &job.spec.selection),
+        TriggerKind::Purge => edge.start(alloc, job.id, true, &job.spec.selection),
     }
 }
 

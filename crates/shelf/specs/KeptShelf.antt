@@ -1,5 +1,5 @@
 -- What is kept of fetches, and the fetches that are open.
-use Rattle.std.specs.Prelude.{◌≡◌, ℕ, ◌+◌, ◌≤◌, min, Bool, true, false, not, ◌||◌, ◌⊎◌, take, All, Contains, List, ◌∷◌, [], ◌++◌, length, option_to_list, map, None, Some, is_some, sum_by, if◌then◌else◌}
+use Rattle.std.specs.Prelude.{◌≡◌, ℕ, ◌+◌, ◌≤◌, min, Bool, true, false, not, ◌==◌, ◌||◌, ◌⊎◌, take, All, Contains, List, ◌∷◌, [], ◌++◌, length, option_to_list, map, None, Some, is_some, sum_by, if◌then◌else◌}
 use Rattle.std.specs.List.{filter_map}
 use Rattle.std.specs.Option.{option_map, option_map_or}
 use Rattle.std.specs.declared.option.Option.{Option}
@@ -78,6 +78,10 @@ shown_as shown = kept_object (record { object = shown.object.now; mark = shown.m
 -- something is kept that is not doubtful
 abbrev pub is_sound : Option Kept → Bool
 is_sound found = option_map_or (λ kept. not kept.doubtful) found false
+
+-- what is kept is of this fetch
+abbrev pub is_of_fetch : ℕ → Option Kept → Bool
+is_of_fetch fetch found = option_map_or (λ kept. kept.fetch == fetch) found false
 
 abbrev pub opened : ShelfView → ℕ → Fetching → ShelfView
 opened s pass fetching = record s {

@@ -1,5 +1,5 @@
 -- The kept objects with what is noted of each, and which of them stay where there are too many bytes.
-use Rattle.std.specs.Prelude.{◌≡◌, ℕ, ◌≤◌, All, Contains, IsSome, Bool, false, not, nat_lt, nat_le, ◌&&◌, if◌then◌else◌, List, [], ◌∷◌, ◌++◌, None, Some, length, filter, find, map, set, slice_get, sum_by, take}
+use Rattle.std.specs.Prelude.{◌≡◌, ℕ, ◌≤◌, All, Contains, is_some, Bool, true, false, not, nat_lt, nat_le, ◌&&◌, if◌then◌else◌, List, [], ◌∷◌, ◌++◌, None, Some, length, filter, find, map, set, slice_get, sum_by, take}
 use Rattle.std.specs.List.{filter_map}
 use Rattle.std.specs.Option.{option_map, option_map_or, unwrap_or}
 use Rattle.std.specs.declared.option.Option.{Option}
@@ -61,9 +61,13 @@ noted note change = record {
   purged = change.purged;
 }
 
+-- a mark whose note has changed so
+abbrev pub remarked : Change → Mark → Mark
+remarked change mark = record mark { note = noted mark.note change }
+
 -- an object whose note has changed so
 abbrev pub noted_as : Change → Marked → Marked
-noted_as change one = record one { mark = record one.mark { note = noted one.mark.note change } }
+noted_as change one = record one { mark = remarked change one.mark }
 
 -- the key's object is so, in its place
 abbrev pub written : KeyParts → Change → List Marked → List Marked
@@ -96,25 +100,20 @@ filled limit items one =
 
 -- ---- a table and marks by keys
 
--- what is noted under a key
-abbrev pub mark_in : List (KeyParts × Mark) → KeyParts → Option Mark
-mark_in marks key = option_map (λ entry. entry.1) (find (λ entry. same_key key entry.0) marks)
+-- what is noted under each key
+abbrev pub Marks : Type 0
+Marks = KeyParts → Option Mark
 
 -- an object with what is noted under its key
-abbrev pub marked_by : List (KeyParts × Mark) → Object → Option Marked
-marked_by marks object = option_map (λ mark. record { object = object; mark = mark }) (mark_in marks object.key)
+abbrev pub marked_by : Marks → Object → Option Marked
+marked_by marks object = option_map (λ mark. record { object = object; mark = mark }) (marks object.key)
 
-abbrev pub marked_in : List (KeyParts × Mark) → List Object → List Marked
+abbrev pub marked_in : Marks → List Object → List Marked
 marked_in marks kept = filter_map (marked_by marks) kept
 
--- the mark under the key has changed so
-abbrev pub rewritten : KeyParts → Change → List (KeyParts × Mark) → List (KeyParts × Mark)
-rewritten key change marks = map (λ entry. if same_key key entry.0
-    then (entry.0, record entry.1 { note = noted entry.1.note change }) else entry) marks
-
 -- There is a mark for each object and no other, and there is room for as many as can be filled in without memory.
-pub record IsMarked (table : objects.Kept) (marks : List (KeyParts × Mark)) (limit spare room : ℕ) : Type 0 where
+pub record IsMarked (table : objects.Kept) (marks : Marks) (count limit spare room : ℕ) : Type 0 where
   pub limited : table.limit ≡ limit
   pub places : (table.spare ≡ spare) × (spare ≤ room)
-  pub marked : All (λ object. IsSome (mark_in marks object.key)) table.objects
-  pub no_others : length marks ≡ length table.objects
+  pub marked : All (λ object. is_some (marks object.key) ≡ true) table.objects
+  pub no_others : count ≡ length table.objects

@@ -1,6 +1,6 @@
 //! What fetches brought, the fetches that are open, and the starts of triggers since.
 
-ghost use Rattle.std.specs.Prelude.{◌≡◌, ◌+◌, ◌^◌, ◌≤◌, Ok, [], map, None, is_some, IfOk, IfNone, OnOk, OnErr, option_map};
+ghost use Rattle.std.specs.Prelude.{◌≡◌, ◌+◌, ◌^◌, ◌≤◌, Ok, [], map, None, is_some, true, IfOk, IfNone, OnOk, OnErr, option_map};
 ghost use Rattle.std.specs.List.{find};
 ghost use Rattle.history.specs.Kept.{kept_of, used};
 ghost use Rattle.shelf.specs.Open.{is_named};

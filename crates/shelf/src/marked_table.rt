@@ -1,9 +1,10 @@
 //! The table of kept objects, with what is noted of each.
 
-ghost use Rattle.std.specs.Prelude.{◌≡◌, ◌+◌, ◌-◌, ◌<◌, ◌≤◌, [], List, map, length, find, remove, slice_get, IfOk, OnOk, OnErr};
+ghost use Rattle.std.specs.Prelude.{◌≡◌, ◌+◌, ◌-◌, ◌<◌, ◌≤◌, [], List, map, length, find, remove, slice_get, if◌then◌else◌, IfOk, OnOk, OnErr};
 ghost use Rattle.std.specs.Option.{option_map};
-ghost use Rattle.indexmap.specs.IndexMap.{spare};
-ghost use Rattle.shelf.specs.MarkedTable.{evicted, is_filled, is_greater, mark_in, marked_of, noted, others, rewritten, total, used, filled, written, written_at, ArePassed};
+ghost use Rattle.cdni_base.specs.Key.{KeyParts, same_key};
+ghost use Rattle.indexmap.specs.IndexMap.{get, index_map_len, spare};
+ghost use Rattle.shelf.specs.MarkedTable.{evicted, is_filled, is_greater, marked_of, noted, others, remarked, total, used, filled, written, written_at, ArePassed};
 
 use cdni_base::{Body, Key};
 use indexmap::IndexMap;
@@ -51,23 +52,24 @@ pub(crate) struct MarkedTable {
     table: ObjectTable,
     marks: IndexMap<Key, Mark>,
     limit: u64,
-    spare: usize,
+    places: usize,
 }
 
 impl Model for MarkedTable {
-    ghost use Rattle.indexmap.specs.IndexMap.{spare};
+    ghost use Rattle.cdni_base.specs.Key.{same_key};
+    ghost use Rattle.indexmap.specs.IndexMap.{get, index_map_len, spare};
     ghost use Rattle.shelf.specs.MarkedTable.{IsMarked, Stocked, marked_in};
 
     ghost Value = { Stocked };
 
     ghost view = { λ t. record {
       limit = t.limit;
-      items = marked_in t.marks.entries t.table.objects;
-      spare = t.spare;
+      items = marked_in (get same_key t.marks) t.table.objects;
+      spare = t.places;
       passed = t.table.passed;
     } };
 
-    ghost invariant = { λ t. IsMarked t.table t.marks.entries t.limit t.spare (spare t.marks) };
+    ghost invariant = { λ t. IsMarked t.table (get same_key t.marks) (index_map_len t.marks) t.limit t.places (spare t.marks) };
 }
 
 impl MarkedTable {
@@ -82,7 +84,7 @@ impl MarkedTable {
             table: ObjectTable::new(alloc, limit)?,
             marks: IndexMap::new(alloc),
             limit,
-            spare: 0,
+            places: 0,
         })
     }
 
@@ -94,12 +96,12 @@ impl MarkedTable {
         ensures more { OnOk result (self.new ≡ record self.old { spare = self.old.spare + 1 }) }
         ensures refused { OnErr result (self.new ≡ self.old) }
     {
-        let Some(spare) = self.spare.checked_add(1) else {
+        let Some(places) = self.places.checked_add(1) else {
             return Err(AllocError);
         };
-        self.marks.reserve(spare)?;
+        self.marks.reserve(places)?;
         self.table.reserve_fill(alloc)?;
-        self.spare = spare;
+        self.places = places;
         Ok(())
     }
 
@@ -109,7 +111,7 @@ impl MarkedTable {
         ensures { self.new ≡ record self.old { spare = self.old.spare - 1 } }
     {
         self.table.give_back();
-        self.spare -= 1;
+        self.places -= 1;
     }
 
     /// The object that is kept under the key, and its mark.
@@ -232,7 +234,7 @@ impl MarkedTable {
         }
         self.take(&key);
         self.make_room(self.limit - body_length(&object.body));
-        self.spare -= 1;
+        self.places -= 1;
         match self.marks.insert(key, mark) {
             Ok(_) => {}
             Err(_) => unreachable!(),
@@ -270,7 +272,9 @@ fn body_length(body: &Body) -> u64
 
 // changes the note under the key, where there is one
 fn write_mark(marks: &mut IndexMap<Key, Mark>, key: &Key, change: Change)
-    ensures marks { marks.new.entries ≡ rewritten key.now change marks.old.entries }
+    ensures marks { (other : KeyParts) → get same_key marks.new other ≡ (if same_key key.now other
+        then option_map (remarked change) (get same_key marks.old other) else get same_key marks.old other) }
+    ensures len { index_map_len marks.new ≡ index_map_len marks.old }
     ensures room { spare marks.new ≡ spare marks.old }
 {
     if let Some(mark) = marks.get_mut(key) {

@@ -1,10 +1,11 @@
 //! How what is kept is tried with the starts of triggers, and how the end of a fetch is taken in.
 
-ghost use Rattle.std.specs.Prelude.{◌≡◌, ◌+◌, ◌-◌, ◌<◌, ◌≤◌, false, Some, [], ℕ, List, map, length, take};
+ghost use Rattle.std.specs.Prelude.{◌≡◌, ◌+◌, ◌-◌, ◌<◌, ◌≤◌, false, true, map, length, slice_get, take};
 ghost use Rattle.std.specs.Option.{option_map};
-ghost use Rattle.shelf.specs.MarkedTable.{Marked};
-ghost use Rattle.shelf.specs.Trials.{ended, AreTried, IsAimed};
-ghost use Rattle.shelf.specs.KeptShelf.{AreUpToEpoch, IsPartOf, IsPartOfOrKept, brought, flight_of, held_object, is_gained, is_hit, is_kept_of, kept_in, stand_of};
+ghost use Rattle.history.specs.Kept.{kept_of};
+ghost use Rattle.shelf.specs.Trials.{aimed_at, IsAimed};
+ghost use Rattle.shelf.specs.Sweeping.{AreTried, AreUpToEpoch, kept_in, stand_of};
+ghost use Rattle.shelf.specs.KeptShelf.{IsPartOf, IsPartOfOrKept, brought, flight_of, held_object, held_of, is_gained, is_hit, is_of_fetch};
 
 use crate::kept_shelf::Launched;
 use crate::marked_table::{Change, Mark, MarkedTable, Note};
@@ -55,7 +56,27 @@ pub(crate) fn keep(
     purges: &mut Trials,
     flight: Open<Launched>,
     outcome: Outcome,
-) -> bool {
+) -> bool
+    requires spare { 0 < stock.old.spare }
+    requires aims { IsAimed starts.old × IsAimed purges.old }
+    requires tried { AreTried starts.old purges.old (take stock.old.passed stock.old.items) }
+    requires begun { flight.what.begun ≤ starts.old.epochs.known.newest }
+    requires keyed { flight.what.key ≡ flight.what.fetching.key }
+    requires items { AreUpToEpoch starts.old.epochs.known.newest purges.old.epochs.known.newest stock.old.items }
+    ensures reply { result ≡ is_gained stock.old.limit (kept_in starts.old purges.old stock.old.items)
+        (flight_of starts.old.epochs.known.starts flight) outcome }
+    ensures kept { kept_in starts.new purges.new stock.new.items ≡ brought stock.old.limit
+        (kept_in starts.old purges.old stock.old.items) (flight_of starts.old.epochs.known.starts flight) outcome }
+    ensures held { IsPartOfOrKept (map held_object stock.new.items) (map held_object stock.old.items)
+        (kept_in starts.new purges.new stock.new.items) }
+    ensures limit { stock.new.limit ≡ stock.old.limit }
+    ensures spare { stock.new.spare + 1 ≡ stock.old.spare }
+    ensures starts { starts.new.epochs ≡ starts.old.epochs }
+    ensures purges { purges.new.epochs ≡ purges.old.epochs }
+    ensures aims { IsAimed starts.new × IsAimed purges.new }
+    ensures tried { AreTried starts.new purges.new (take stock.new.passed stock.new.items) }
+    ensures items { AreUpToEpoch starts.new.epochs.known.newest purges.new.epochs.known.newest stock.new.items }
+{
     if is_hit(starts, &flight) {
         stock.give_back();
         return false;
@@ -89,7 +110,28 @@ fn keep_content(
     purges: &mut Trials,
     flight: Open<Launched>,
     got: Got,
-) -> bool {
+) -> bool
+    requires spare { 0 < stock.old.spare }
+    requires aims { IsAimed starts.old × IsAimed purges.old }
+    requires tried { AreTried starts.old purges.old (take stock.old.passed stock.old.items) }
+    requires begun { flight.what.begun ≤ starts.old.epochs.known.newest }
+    requires keyed { flight.what.key ≡ flight.what.fetching.key }
+    requires items { AreUpToEpoch starts.old.epochs.known.newest purges.old.epochs.known.newest stock.old.items }
+    requires unhit { is_hit starts.old.epochs.known.starts flight.what ≡ false }
+    ensures reply { result ≡ is_gained stock.old.limit (kept_in starts.old purges.old stock.old.items)
+        (flight_of starts.old.epochs.known.starts flight) (Outcome.Got got) }
+    ensures kept { kept_in starts.new purges.new stock.new.items ≡ brought stock.old.limit
+        (kept_in starts.old purges.old stock.old.items) (flight_of starts.old.epochs.known.starts flight) (Outcome.Got got) }
+    ensures held { IsPartOfOrKept (map held_object stock.new.items) (map held_object stock.old.items)
+        (kept_in starts.new purges.new stock.new.items) }
+    ensures limit { stock.new.limit ≡ stock.old.limit }
+    ensures spare { stock.new.spare + 1 ≡ stock.old.spare }
+    ensures starts { starts.new.epochs ≡ starts.old.epochs }
+    ensures purges { purges.new.epochs ≡ purges.old.epochs }
+    ensures aims { IsAimed starts.new × IsAimed purges.new }
+    ensures tried { AreTried starts.new purges.new (take stock.new.passed stock.new.items) }
+    ensures items { AreUpToEpoch starts.new.epochs.known.newest purges.new.epochs.known.newest stock.new.items }
+{
     if got.status() != 200 || !got.store() {
         stock.give_back();
         return false;
@@ -125,7 +167,24 @@ fn confirm(
     starts: &Trials,
     purges: &Trials,
     flight: Open<Launched>,
-) -> bool {
+) -> bool
+    requires spare { 0 < stock.old.spare }
+    requires aims { IsAimed starts.now × IsAimed purges.now }
+    requires tried { AreTried starts.now purges.now (take stock.old.passed stock.old.items) }
+    requires keyed { flight.what.key ≡ flight.what.fetching.key }
+    requires items { AreUpToEpoch starts.now.epochs.known.newest purges.now.epochs.known.newest stock.old.items }
+    requires unhit { is_hit starts.now.epochs.known.starts flight.what ≡ false }
+    ensures reply { result ≡ is_gained stock.old.limit (kept_in starts.now purges.now stock.old.items)
+        (flight_of starts.now.epochs.known.starts flight) Outcome.Unchanged }
+    ensures kept { kept_in starts.now purges.now stock.new.items ≡ brought stock.old.limit
+        (kept_in starts.now purges.now stock.old.items) (flight_of starts.now.epochs.known.starts flight)
+        Outcome.Unchanged }
+    ensures held { IsPartOf (map held_object stock.new.items) (map held_object stock.old.items) }
+    ensures limit { stock.new.limit ≡ stock.old.limit }
+    ensures spare { stock.new.spare + 1 ≡ stock.old.spare }
+    ensures tried { AreTried starts.now purges.now (take stock.new.passed stock.new.items) }
+    ensures items { AreUpToEpoch starts.now.epochs.known.newest purges.now.epochs.known.newest stock.new.items }
+{
     stock.give_back();
     let Some(base) = flight.what.fetching.base else {
         return false;
@@ -147,7 +206,9 @@ fn confirm(
 }
 
 // whether what is kept under the key is of this fetch
-fn is_kept_of(stock: &MarkedTable, starts: &Trials, purges: &Trials, key: &Key, base: u64) -> bool {
+fn is_kept_of(stock: &MarkedTable, starts: &Trials, purges: &Trials, key: &Key, base: u64) -> bool
+    ensures { result ≡ is_of_fetch base (kept_of key.now (kept_in starts.now purges.now stock.now.items)) }
+{
     match stock.find(key) {
         Some((object, mark)) => {
             mark.note.fetch == base && stand_of(starts, purges, object, mark) != Standing::Gone
@@ -158,11 +219,28 @@ fn is_kept_of(stock: &MarkedTable, starts: &Trials, purges: &Trials, key: &Key, 
 
 /// Takes out the objects that starts have taken back, notes which others are doubtful, and that all need not be tried with
 /// these starts again.
-pub(crate) fn sweep(stock: &mut MarkedTable, starts: &mut Trials, purges: &mut Trials) {
-    if !starts.is_behind() {
+pub(crate) fn sweep(stock: &mut MarkedTable, starts: &mut Trials, purges: &mut Trials)
+    requires aims { IsAimed starts.old × IsAimed purges.old }
+    requires tried { AreTried starts.old purges.old (take stock.old.passed stock.old.items) }
+    requires items { AreUpToEpoch starts.old.epochs.known.newest purges.old.epochs.known.newest stock.old.items }
+    ensures kept { kept_in starts.new purges.new stock.new.items ≡ kept_in starts.old purges.old stock.old.items }
+    ensures swept { map held_object stock.new.items ≡ map held_of (kept_in starts.old purges.old stock.old.items) }
+    ensures starts { starts.new ≡ record starts.old {
+      noted = starts.old.epochs.known.newest;
+      aimed = starts.old.epochs.known.newest;
+    } }
+    ensures purges { purges.new ≡ record purges.old {
+      noted = purges.old.epochs.known.newest;
+      aimed = purges.old.epochs.known.newest;
+    } }
+    ensures items { AreUpToEpoch starts.new.epochs.known.newest purges.new.epochs.known.newest stock.new.items }
+    ensures limit { stock.new.limit ≡ stock.old.limit }
+    ensures spare { stock.new.spare ≡ stock.old.spare }
+{
+    if !starts.is_behind() && !purges.is_behind() {
         return;
     }
-    let is_due = starts.aimed < starts.newest();
+    let is_due = starts.aimed < starts.newest() || purges.aimed < purges.newest();
     walk_if(stock, starts, purges, is_due);
     let all = stock.len() as u64;
     try_some(stock, starts, purges, all);
@@ -178,6 +256,18 @@ pub(crate) fn sweep_portion(
     least: u64,
 )
     requires behind { starts.old.noted < starts.old.epochs.known.newest }
+    requires aims { IsAimed starts.old × IsAimed purges.old }
+    requires tried { AreTried starts.old purges.old (take stock.old.passed stock.old.items) }
+    ensures kept { kept_in starts.new purges.new stock.new.items ≡ kept_in starts.old purges.old stock.old.items }
+    ensures held { IsPartOf (map held_object stock.new.items) (map held_object stock.old.items) }
+    ensures starts { starts.new.epochs ≡ starts.old.epochs }
+    ensures purges { purges.new.epochs ≡ purges.old.epochs }
+    ensures aims { IsAimed starts.new × IsAimed purges.new }
+    ensures tried { AreTried starts.new purges.new (take stock.new.passed stock.new.items) }
+    ensures items { AreUpToEpoch starts.old.epochs.known.newest purges.old.epochs.known.newest stock.old.items
+        → AreUpToEpoch starts.new.epochs.known.newest purges.new.epochs.known.newest stock.new.items }
+    ensures limit { stock.new.limit ≡ stock.old.limit }
+    ensures spare { stock.new.spare ≡ stock.old.spare }
 {
     let is_due = starts.aimed == starts.noted;
     walk_if(stock, starts, purges, is_due);
@@ -187,7 +277,15 @@ pub(crate) fn sweep_portion(
 }
 
 // notes that all objects were tried with the starts up to the ones that a walk aims at, where it has come to its end
-fn note_if_tried(stock: &MarkedTable, starts: &mut Trials, purges: &mut Trials) {
+fn note_if_tried(stock: &MarkedTable, starts: &mut Trials, purges: &mut Trials)
+    requires aims { IsAimed starts.old × IsAimed purges.old }
+    requires tried { AreTried starts.old purges.old (take stock.now.passed stock.now.items) }
+    ensures kept { kept_in starts.new purges.new stock.now.items ≡ kept_in starts.old purges.old stock.now.items }
+    ensures starts { starts.new.epochs ≡ starts.old.epochs }
+    ensures purges { purges.new.epochs ≡ purges.old.epochs }
+    ensures aims { IsAimed starts.new × IsAimed purges.new }
+    ensures tried { AreTried starts.new purges.new (take stock.now.passed stock.now.items) }
+{
     match stock.next() {
         Some(_) => {}
         None => {
@@ -198,7 +296,17 @@ fn note_if_tried(stock: &MarkedTable, starts: &mut Trials, purges: &mut Trials) 
 }
 
 // a walk begins where it is due, which is to try each object with all starts so far
-fn walk_if(stock: &mut MarkedTable, starts: &mut Trials, purges: &mut Trials, is_due: bool) {
+fn walk_if(stock: &mut MarkedTable, starts: &mut Trials, purges: &mut Trials, is_due: bool)
+    requires aims { IsAimed starts.old × IsAimed purges.old }
+    requires tried { AreTried starts.old purges.old (take stock.old.passed stock.old.items) }
+    ensures stock { stock.new ≡ record stock.old { passed = stock.new.passed } }
+    ensures starts { starts.new ≡ record starts.old { aimed = starts.new.aimed } }
+    ensures purges { purges.new ≡ record purges.old { aimed = purges.new.aimed } }
+    ensures aims { IsAimed starts.new × IsAimed purges.new }
+    ensures due { is_due ≡ true → (starts.new ≡ aimed_at starts.old) × (purges.new ≡ aimed_at purges.old) }
+    ensures under_way { is_due ≡ false → (starts.new ≡ starts.old) × (purges.new ≡ purges.old) }
+    ensures tried { AreTried starts.new purges.new (take stock.new.passed stock.new.items) }
+{
     if is_due {
         starts.aim();
         purges.aim();
@@ -207,14 +315,36 @@ fn walk_if(stock: &mut MarkedTable, starts: &mut Trials, purges: &mut Trials, is
 }
 
 // a walk comes to so many objects, or to its end, and takes out those that starts have taken back
-fn try_some(stock: &mut MarkedTable, starts: &Trials, purges: &Trials, n: u64) {
+fn try_some(stock: &mut MarkedTable, starts: &Trials, purges: &Trials, n: u64)
+    requires aims { IsAimed starts.now × IsAimed purges.now }
+    ensures kept { kept_in starts.now purges.now stock.new.items ≡ kept_in starts.now purges.now stock.old.items }
+    ensures held { IsPartOf (map held_object stock.new.items) (map held_object stock.old.items) }
+    ensures tried { AreTried starts.now purges.now (take stock.old.passed stock.old.items)
+        → AreTried starts.now purges.now (take stock.new.passed stock.new.items) }
+    ensures left { length stock.new.items - stock.new.passed ≤ length stock.old.items - stock.old.passed - n }
+    ensures items { AreUpToEpoch starts.now.epochs.known.newest purges.now.epochs.known.newest stock.old.items
+        → AreUpToEpoch starts.now.epochs.known.newest purges.now.epochs.known.newest stock.new.items }
+    ensures limit { stock.new.limit ≡ stock.old.limit }
+    ensures spare { stock.new.spare ≡ stock.old.spare }
+{
     'objects: for _step in 0..n {
         try_next(stock, starts, purges);
     }
 }
 
 // a walk comes to the next object, takes it out where starts have taken it back, and notes where they have made it doubtful
-fn try_next(stock: &mut MarkedTable, starts: &Trials, purges: &Trials) {
+fn try_next(stock: &mut MarkedTable, starts: &Trials, purges: &Trials)
+    requires aims { IsAimed starts.now × IsAimed purges.now }
+    ensures kept { kept_in starts.now purges.now stock.new.items ≡ kept_in starts.now purges.now stock.old.items }
+    ensures held { IsPartOf (map held_object stock.new.items) (map held_object stock.old.items) }
+    ensures tried { AreTried starts.now purges.now (take stock.old.passed stock.old.items)
+        → AreTried starts.now purges.now (take stock.new.passed stock.new.items) }
+    ensures left { length stock.new.items - stock.new.passed ≤ length stock.old.items - stock.old.passed - 1 }
+    ensures items { AreUpToEpoch starts.now.epochs.known.newest purges.now.epochs.known.newest stock.old.items
+        → AreUpToEpoch starts.now.epochs.known.newest purges.now.epochs.known.newest stock.new.items }
+    ensures limit { stock.new.limit ≡ stock.old.limit }
+    ensures spare { stock.new.spare ≡ stock.old.spare }
+{
     let Some(found) = next_standing(stock, starts, purges) else {
         return;
     };
@@ -234,7 +364,9 @@ fn try_next(stock: &mut MarkedTable, starts: &Trials, purges: &Trials) {
 }
 
 // how the object stands that a walk comes to next
-fn next_standing(stock: &MarkedTable, starts: &Trials, purges: &Trials) -> Option<Standing> {
+fn next_standing(stock: &MarkedTable, starts: &Trials, purges: &Trials) -> Option<Standing>
+    ensures { result ≡ option_map (stand_of starts.now purges.now) (slice_get stock.now.items stock.now.passed) }
+{
     let (object, mark) = stock.next()?;
     Some(stand_of(starts, purges, object, mark))
 }

@@ -3,7 +3,7 @@ use cdni_base::{Endpoint, Text};
 use edge_base::{MemorySink, MemorySource};
 use std::alloc::Global;
 use std::test::Fail;
-use upstream_gate::{Ask, Outcome};
+use upstream_gate::{Ask, Outcome, Tag};
 use upstream_http::exchange;
 
 fn ask_of(alloc: Global, endpoint: &[u8]) -> Result<Ask, Fail> {
@@ -31,6 +31,7 @@ fn told(alloc: Global, outcome: &Outcome) -> Result<String, Fail> {
             }
             text
         }
+        Outcome::Unchanged => format!(in alloc; "unchanged")?,
         Outcome::Refused { status } => format!(in alloc; "refused {status}")?,
         Outcome::TooLong { length } => format!(in alloc; "too long {length}")?,
         Outcome::Malformed { taken } => format!(in alloc; "malformed {taken}")?,
@@ -47,6 +48,33 @@ fn exchanged(alloc: Global, bytes: &[u8], gives: &[u64], limit: u64) -> Result<S
     let ask = ask_of(alloc, b"v.example")?;
     let outcome = exchange(alloc, &mut source, &mut sink, &ask, limit);
     told(alloc, &outcome)
+}
+
+// the same of an ask with this tag
+fn checked(alloc: Global, tag: &[u8], bytes: &[u8]) -> Result<(String, Vec<u8>), Fail> {
+    let mut source = MemorySource::new(alloc, bytes, &[])?;
+    let mut sink = MemorySink::new(alloc, &[])?;
+    let mut ask = ask_of(alloc, b"v.example")?;
+    ask.tag = Tag::of(alloc, tag)?;
+    let outcome = exchange(alloc, &mut source, &mut sink, &ask, 9);
+    Ok((told(alloc, &outcome)?, sink.held().to_vec(alloc)?))
+}
+
+// the entity tag of content in an answer with these fields, and whether it may be stored
+fn validated(alloc: Global, fields: &[u8]) -> Result<(Vec<u8>, bool), Fail> {
+    let mut bytes = b"HTTP/1.1 200 OK\r\nContent-Length: 1\r\n".to_vec(alloc)?;
+    bytes.extend_from_slice(fields)?;
+    bytes.extend_from_slice(b"\r\n1")?;
+    let mut source = MemorySource::new(alloc, &bytes, &[])?;
+    let mut sink = MemorySink::new(alloc, &[])?;
+    let ask = ask_of(alloc, b"v.example")?;
+    match exchange(alloc, &mut source, &mut sink, &ask, 9) {
+        Outcome::Got(got) => match got.tag() {
+            Some(tag) => Ok((tag.bytes().to_vec(alloc)?, got.store())),
+            None => Ok((Vec::new(alloc), got.store())),
+        },
+        _ => Err(Fail::from("no content")),
+    }
 }
 
 // the request of an exchange whose origin says nothing, by writes of some bytes
@@ -307,5 +335,33 @@ fn faults_at_each_call(rt: HostRuntime) -> Result<(), Fail> {
         assert!(rt; matches!(outcome, Outcome::Failed));
         assert_eq!(rt; held, good);
     }
+    Ok(())
+}
+
+#[test]
+fn an_ask_with_a_tag_is_answered_that_nothing_changed(rt: HostRuntime) -> Result<(), Fail> {
+    let answer = b"HTTP/1.1 304 Not Modified\r\nETag: \"x\"\r\nContent-Length: 3\r\n\r\n";
+    let (told, sent) = checked(rt.alloc(), b"\"x\"", answer)?;
+    assert!(rt; told.as_str() == "unchanged");
+    let tagged = b"\r\nAccept-Encoding: identity\r\nIf-None-Match: \"x\"\r\n";
+    assert!(rt; sent.windows(tagged.len()).any(|bytes| bytes == tagged.as_slice()));
+    let told = exchanged(rt.alloc(), answer, &[], 9)?;
+    assert!(rt; told.as_str() == "refused 304");
+    let whole = b"HTTP/1.1 200 OK\r\nContent-Length: 1\r\n\r\n1";
+    let (told, _sent) = checked(rt.alloc(), b"W/\"x\"", whole)?;
+    assert!(rt; told.as_str() == "200 |1");
+    Ok(())
+}
+
+#[test]
+fn tags_and_storing_are_read(rt: HostRuntime) -> Result<(), Fail> {
+    let (tag, store) = validated(rt.alloc(), b"etag: W/\"x!~\"\r\nCache-Control: no-cache\r\n")?;
+    assert!(rt; tag.as_slice() == b"W/\"x!~\"".as_slice() && store);
+    let (tag, store) = validated(rt.alloc(), b"ETag: \"\"\r\nCache-Control: a,\tNo-Store \r\n")?;
+    assert!(rt; tag.as_slice() == b"\"\"".as_slice() && !store);
+    let (tag, store) = validated(rt.alloc(), b"ETag: \"a\"\r\nETag: \"a\"\r\n")?;
+    assert!(rt; tag.is_empty() && store);
+    let (tag, store) = validated(rt.alloc(), b"ETag: \"a b\"\r\nCache-Control: x-no-store\r\n")?;
+    assert!(rt; tag.is_empty() && store);
     Ok(())
 }

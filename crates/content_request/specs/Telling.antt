@@ -25,14 +25,15 @@ IsFailure (outcome.TooLong size) = Unit {0}
 IsFailure (outcome.Malformed taken) = Unit {0}
 IsFailure (outcome.Cut taken) = Unit {0}
 IsFailure outcome.Failed = Unit {0}
+IsFailure outcome.Unchanged = ⊥
 IsFailure outcome.Memory = ⊥
 
 -- the delivery had a fetch that brought nothing
 abbrev pub BroughtNothing : Course → Type 0
-BroughtNothing (Brought delivery fetch plan made how ended closed at line) = IsFailure how
+BroughtNothing (Brought delivery fetch waiting made how ended closed at line) = IsFailure how
 BroughtNothing NoRoom = ⊥
 BroughtNothing (Crowded count) = ⊥
 BroughtNothing (Full count) = ⊥
 BroughtNothing (Barred delivery rule at line) = ⊥
 BroughtNothing (Kept delivery fetch kind body at line) = ⊥
-BroughtNothing (Short delivery fetch plan made how ended closed at line) = ⊥
+BroughtNothing (Short delivery fetch waiting made how ended closed at line) = ⊥

@@ -4,7 +4,8 @@ ghost use Rattle.std.specs.Prelude.{◌≡◌, ◌≢◌, ◌≤◌, ◌<◌, fa
 ghost use Rattle.cdni_base.specs.declared.date.TheConstants.{DATE_END};
 ghost use Rattle.edge_base.specs.Causes.{Rose};
 ghost use Rattle.session_base.specs.Answer.{IsConstant, Says};
-ghost use Rattle.content_request.specs.Course.{Content, Course, Delivers, DeliversFetched, DeliversKept, Follows, HasGateFault, MayFallShort};
+ghost use Rattle.session_base.specs.Content.{brought_shown, content_shown};
+ghost use Rattle.content_request.specs.Course.{Content, Course, Delivers, DeliversFetched, Follows, HasGateFault, MayFallShort};
 ghost use Rattle.session_base.specs.Doing.{Any, Does, Doing};
 ghost use Rattle.session_base.specs.Ending.{next_of};
 ghost use Rattle.session_base.specs.declared.ending.Ending.{Ending};
@@ -182,7 +183,7 @@ fn deliver_fetched<R: Threads + Wait + Sync, H: Home, K: Sink, C: Clock>(
     requires { manner.now.moment < DATE_END }
     ensures who { H.who home.new ≡ H.who home.old }
     ensures stays { H.stays home.old home.new }
-    ensures does { (d : Doing) × DeliversFetched manner.now delivery fetch outcome d result
+    ensures does { (d : Doing) × DeliversFetched manner.now (brought_shown manner.now outcome) delivery fetch outcome d result
         × Does (H.who home.old) (BothOpen (H.who home.old) delivery fetch) (H.has_seen home.old) (H.has_seen home.new)
         (C.given clock.old) (C.given clock.new) None None (K.held sink.old) (K.held sink.new) d }
     ensures later { K.faults sink.old ≤ K.faults sink.new }
@@ -227,7 +228,8 @@ fn deliver_kept<R: Threads + Wait + Sync, H: Home, K: Sink, C: Clock>(
     requires { manner.now.moment < DATE_END }
     ensures who { H.who home.new ≡ H.who home.old }
     ensures stays { H.stays home.old home.new }
-    ensures does { (d : Doing) × DeliversKept manner.now kept.delivery kept.fetch kept.kind kept.body d result
+    ensures does { (d : Doing) × DeliversFetched manner.now (content_shown manner.now kept.kind kept.body) kept.delivery kept.fetch
+        Outcome.Unchanged d result
         × Does (H.who home.old) (BothOpen (H.who home.old) kept.delivery kept.fetch) (H.has_seen home.old) (H.has_seen home.new)
         (C.given clock.old) (C.given clock.new) None None (K.held sink.old) (K.held sink.new) d }
     ensures later { K.faults sink.old ≤ K.faults sink.new }

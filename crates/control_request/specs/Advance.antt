@@ -30,7 +30,7 @@ pub record FetchesFor (fetch : ℕ) (plan : List Endpoint) (target : Target) (d 
   pub how : Outcome
   pub ended : ℕ
   pub line : Reply
-  pub asked : IsAsked (origin_form target) plan made how
+  pub asked : IsAsked (origin_form target) None plan made how
   pub is : d ≡ record {
     bytes = [];
     moments = ended ∷ [];

@@ -94,6 +94,7 @@ gateway_text (outcome.TooLong size) = codes "gateway length " ++ decimal size
 gateway_text (outcome.Malformed taken) = codes "gateway malformed " ++ decimal taken
 gateway_text (outcome.Cut taken) = codes "gateway cut " ++ decimal taken
 gateway_text outcome.Failed = codes "gateway failed"
+gateway_text outcome.Unchanged = []
 gateway_text outcome.Memory = []
 
 -- Bad Gateway (RFC 9110, section 15.6.3)
@@ -110,6 +111,7 @@ brought_shown manner (outcome.TooLong size) = gateway_shown manner (outcome.TooL
 brought_shown manner (outcome.Malformed taken) = gateway_shown manner (outcome.Malformed taken)
 brought_shown manner (outcome.Cut taken) = gateway_shown manner (outcome.Cut taken)
 brought_shown manner outcome.Failed = gateway_shown manner outcome.Failed
+brought_shown manner outcome.Unchanged = gateway_shown manner outcome.Unchanged
 brought_shown manner outcome.Memory = gateway_shown manner outcome.Memory
 
 -- what an origin gave has the status 200, 404 or 410, and a body within the limit

@@ -1,14 +1,19 @@
 //! What fetches brought, the fetches that are open, and the starts of triggers since.
 
-ghost use Rattle.std.specs.Prelude.{◌≡◌, ◌+◌, ◌^◌, ◌≤◌, Ok, [], map, None, is_some, true, IfOk, IfNone, OnOk, OnErr, option_map};
+ghost use Rattle.std.specs.Prelude.{◌≡◌, ◌+◌, ◌^◌, ◌≤◌, Ok, [], map, None, is_some, take, true, IfOk, IfNone, OnOk, OnErr, option_map};
+ghost use Rattle.std.specs.Option.{option_map_or};
 ghost use Rattle.std.specs.List.{find};
 ghost use Rattle.history.specs.Kept.{kept_of, used};
 ghost use Rattle.shelf.specs.Open.{is_named};
-ghost use Rattle.shelf.specs.KeptShelf.{AreBegun, IsPartOf, IsPartOfOrKept, content_of, end_after, end_reply, held_of, is_sound, least_begun, opened, shown_as, start_after, total_held};
+ghost use Rattle.epochs.specs.EpochsList.{past};
+ghost use Rattle.shelf.specs.KeptShelf.{AreBegun, IsPartOf, IsPartOfOrKept, content_of, end_after, end_reply, flight_of, held_object, held_of, is_sound, least_begun, least_needed, opened, shown_as, start_after, total_held};
+ghost use Rattle.shelf.specs.MarkedTable.{marked_of};
+ghost use Rattle.shelf.specs.Sweeping.{AreTried, AreUpToEpoch, kept_in, stand_of};
+ghost use Rattle.shelf.specs.Trials.{IsAimed};
 
-use crate::marked_table::{Change, Mark, MarkedTable};
+use crate::marked_table::{Mark, MarkedTable};
 use crate::open::{Named, Open};
-use crate::sweeping::{Standing, keep, stand_of, sweep, sweep_portion};
+use crate::sweeping::{Standing, keep, stand_of, sweep, sweep_portion, tried};
 use crate::trials::Trials;
 use cdni_base::Key;
 use history::Fetching;
@@ -110,7 +115,18 @@ impl Shelf {
         let key = fetching.key.clone()?;
         self.flights.reserve(alloc, 1)?;
         self.stock.reserve_fill(alloc)?;
-        Ok(self.launch(pass, fetching, key))
+        self.fetched += 1;
+        let begun = self.starts.newest();
+        self.flights.push(Open {
+            number: self.fetched,
+            pass,
+            what: Launched {
+                fetching,
+                key,
+                begun,
+            },
+        });
+        Ok(self.fetched)
     }
 
     /// Opens a fetch for this pass under whose key nothing is kept that can be given at once, as `open` does. What is kept
@@ -130,19 +146,28 @@ impl Shelf {
         ensures held { IsPartOf self.new.held self.old.held }
         ensures err { OnErr result (self.new ≡ self.old) }
     {
-        let key = fetching.key.clone()?;
-        self.flights.reserve(alloc, 1)?;
-        self.stock.reserve_fill(alloc)?;
-        self.try_key(&key);
-        let fetch = self.launch(pass, fetching, key);
+        let fetch = self.open_tried(alloc, pass, fetching)?;
         self.sweep_some(LEAST);
         Ok(fetch)
     }
 
-    // opens a fetch at a reserved place
-    fn launch(&mut self, pass: u32, fetching: Fetching, key: Key) -> u64
+    // the same, where no other object is tried
+    fn open_tried(
+        &mut self,
+        alloc: Global,
+        pass: u32,
+        fetching: Fetching,
+    ) -> Result<u64, AllocError>
         requires few { self.old.fetched ≤ 2 ^ 62 }
+        ensures reply { IfOk result (λ fetch. fetch ≡ self.old.fetched + 1) }
+        ensures after { OnOk result (self.new ≡ record (opened self.old pass fetching) { held = self.new.held }) }
+        ensures held { IsPartOf self.new.held self.old.held }
+        ensures err { OnErr result (self.new ≡ self.old) }
     {
+        let key = fetching.key.clone()?;
+        self.flights.reserve(alloc, 1)?;
+        self.stock.reserve_fill(alloc)?;
+        try_key(&mut self.stock, &self.starts, &self.purges, &key);
         self.fetched += 1;
         let begun = self.starts.newest();
         self.flights.push(Open {
@@ -154,46 +179,13 @@ impl Shelf {
                 begun,
             },
         });
-        self.fetched
-    }
-
-    // tries the key's object with the starts: it leaves where they have taken it back, and that it is doubtful is noted
-    fn try_key(&mut self, key: &Key)
-        ensures after { self.new ≡ record self.old { held = self.new.held } }
-        ensures held { IsPartOf self.new.held self.old.held }
-    {
-        if !self.starts.is_behind() {
-            return;
-        }
-        match self.standing_of(key) {
-            Standing::Sound => {}
-            Standing::Doubtful => {
-                let change = self.change(None, true);
-                self.stock.write(key, change);
-            }
-            Standing::Gone => {
-                self.stock.take(key);
-                self.settle();
-            }
-        }
-    }
-
-    // how the key's object stands, which is sound where there is none
-    fn standing_of(&self, key: &Key) -> Standing {
-        match self.stock.find(key) {
-            Some((object, mark)) => stand_of(&self.starts, &self.purges, object, mark),
-            None => Standing::Sound,
-        }
-    }
-
-    // how a note changes of an object that was tried with all starts
-    fn change(&self, fetch: Option<u64>, doubtful: bool) -> Change {
-        Change {
-            fetch,
-            doubtful,
-            since: self.starts.newest(),
-            purged: self.purges.newest(),
-        }
+        settle(
+            &mut self.starts,
+            &mut self.purges,
+            &self.stock,
+            &self.flights,
+        );
+        Ok(self.fetched)
     }
 
     /// What is kept under the key.
@@ -252,12 +244,24 @@ impl Shelf {
         } }
         ensures held { IsPartOf self.new.held self.old.held }
     {
+        self.renew_one(key);
+        self.sweep_some(0);
+    }
+
+    // the same, where no other object is tried
+    fn renew_one(&mut self, key: &Key)
+        requires { is_sound (kept_of key.now self.old.kept) ≡ true }
+        ensures after { self.new ≡ record self.old {
+          kept = used key.now self.old.kept;
+          held = self.new.held;
+        } }
+        ensures held { IsPartOf self.new.held self.old.held }
+    {
         self.stock.touch(key);
         if self.starts.is_behind() {
-            let change = self.change(None, false);
+            let change = tried(&self.starts, &self.purges, None, false);
             self.stock.write(key, change);
         }
-        self.sweep_some(0);
     }
 
     /// A trigger starts, a purge or an invalidate: of what its selection hits, what is kept leaves, or, where it has a tag and
@@ -285,7 +289,12 @@ impl Shelf {
         } else {
             self.starts.epochs.start(alloc, copy)?;
         }
-        self.settle();
+        settle(
+            &mut self.starts,
+            &mut self.purges,
+            &self.stock,
+            &self.flights,
+        );
         Ok(())
     }
 
@@ -296,7 +305,12 @@ impl Shelf {
     {
         if self.starts.is_behind() {
             sweep_portion(&mut self.stock, &mut self.starts, &mut self.purges, least);
-            self.settle();
+            settle(
+                &mut self.starts,
+                &mut self.purges,
+                &self.stock,
+                &self.flights,
+            );
         }
     }
 
@@ -306,7 +320,12 @@ impl Shelf {
         ensures { self.new ≡ record self.old { held = map held_of self.old.kept } }
     {
         sweep(&mut self.stock, &mut self.starts, &mut self.purges);
-        self.settle();
+        settle(
+            &mut self.starts,
+            &mut self.purges,
+            &self.stock,
+            &self.flights,
+        );
     }
 
     /// Ends the fetch of this number, if this pass opened it, and keeps what it brought, or confirms what it asked for, where
@@ -332,7 +351,12 @@ impl Shelf {
                     flight,
                     outcome,
                 );
-                self.settle();
+                settle(
+                    &mut self.starts,
+                    &mut self.purges,
+                    &self.stock,
+                    &self.flights,
+                );
                 Some(kept)
             }
             None => {
@@ -341,17 +365,72 @@ impl Shelf {
             }
         }
     }
+}
 
-    // forgets the starts that neither an open fetch nor an object of the table has to be tried with
-    fn settle(&mut self)
-        ensures { self.new ≡ self.old }
-    {
-        let is_empty = self.stock.len() == 0;
-        let oldest = first_begun(&self.flights, self.starts.newest());
-        self.starts.settle(oldest, is_empty);
-        let newest = self.purges.newest();
-        self.purges.settle(newest, is_empty);
+// tries the key's object with the starts: it leaves where they have taken it back, and that it is doubtful is noted
+fn try_key(stock: &mut MarkedTable, starts: &Trials, purges: &Trials, key: &Key)
+    requires aims { IsAimed starts.now × IsAimed purges.now }
+    ensures kept { kept_in starts.now purges.now stock.new.items ≡ kept_in starts.now purges.now stock.old.items }
+    ensures held { IsPartOf (map held_object stock.new.items) (map held_object stock.old.items) }
+    ensures tried { AreTried starts.now purges.now (take stock.old.passed stock.old.items)
+        → AreTried starts.now purges.now (take stock.new.passed stock.new.items) }
+    ensures items { AreUpToEpoch starts.now.epochs.known.newest purges.now.epochs.known.newest stock.old.items
+        → AreUpToEpoch starts.now.epochs.known.newest purges.now.epochs.known.newest stock.new.items }
+    ensures limit { stock.new.limit ≡ stock.old.limit }
+    ensures spare { stock.new.spare ≡ stock.old.spare }
+{
+    if !starts.is_behind() {
+        return;
     }
+    match standing_of(stock, starts, purges, key) {
+        Standing::Sound => {}
+        Standing::Doubtful => {
+            let change = tried(starts, purges, None, true);
+            stock.write(key, change);
+        }
+        Standing::Gone => stock.take(key),
+    }
+}
+
+// how the key's object stands, which is sound where there is none
+fn standing_of(stock: &MarkedTable, starts: &Trials, purges: &Trials, key: &Key) -> Standing
+    ensures { result ≡ option_map_or (stand_of starts.now purges.now) (marked_of key.now stock.now.items) Standing.Sound }
+{
+    match stock.find(key) {
+        Some((object, mark)) => stand_of(starts, purges, object, mark),
+        None => Standing::Sound,
+    }
+}
+
+// forgets the starts that neither an open fetch nor an object of the table has to be tried with
+fn settle(
+    starts: &mut Trials,
+    purges: &mut Trials,
+    stock: &MarkedTable,
+    flights: &Row<Open<Launched>>,
+)
+    requires aims { IsAimed starts.old × IsAimed purges.old }
+    requires begun { AreBegun 0 starts.old.epochs.known.newest flights.now.items }
+    ensures starts { starts.new.epochs.known.starts
+        ≡ past (least_needed (least_begun starts.old.epochs.known.newest flights.now.items) starts.old.noted stock.now.items)
+        starts.old.epochs.known.starts }
+    ensures newest { starts.new.epochs.known.newest ≡ starts.old.epochs.known.newest }
+    ensures noted { (starts.new.noted ≡ starts.old.noted) × (starts.new.aimed ≡ starts.old.aimed) }
+    ensures purges { purges.new.epochs.known.starts
+        ≡ past (least_needed purges.old.epochs.known.newest purges.old.noted stock.now.items) purges.old.epochs.known.starts }
+    ensures purges_newest { purges.new.epochs.known.newest ≡ purges.old.epochs.known.newest }
+    ensures purges_noted { (purges.new.noted ≡ purges.old.noted) × (purges.new.aimed ≡ purges.old.aimed) }
+    ensures kept { kept_in starts.new purges.new stock.now.items ≡ kept_in starts.old purges.old stock.now.items }
+    ensures tried { AreTried starts.old purges.old (take stock.now.passed stock.now.items)
+        → AreTried starts.new purges.new (take stock.now.passed stock.now.items) }
+    ensures fetches { map (flight_of starts.new.epochs.known.starts) flights.now.items
+        ≡ map (flight_of starts.old.epochs.known.starts) flights.now.items }
+{
+    let is_empty = stock.len() == 0;
+    let oldest = first_begun(flights, starts.newest());
+    starts.settle(oldest, is_empty);
+    let newest = purges.newest();
+    purges.settle(newest, is_empty);
 }
 
 // a copy of the part that selects content

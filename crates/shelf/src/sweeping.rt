@@ -48,6 +48,23 @@ pub(crate) fn stand_of(starts: &Trials, purges: &Trials, object: &Object, mark: 
     }
 }
 
+/// How the note changes of an object that was tried with all starts.
+pub(crate) fn tried(starts: &Trials, purges: &Trials, fetch: Option<u64>, doubtful: bool) -> Change
+    ensures { result ≡ record {
+      fetch = fetch;
+      doubtful = doubtful;
+      since = starts.now.epochs.known.newest;
+      purged = purges.now.epochs.known.newest;
+    } }
+{
+    Change {
+        fetch,
+        doubtful,
+        since: starts.newest(),
+        purged: purges.newest(),
+    }
+}
+
 /// Keeps what an open fetch brought, or confirms what it asked for, where that is to be, and gives its place back where it is
 /// not used.
 pub(crate) fn keep(
@@ -193,15 +210,8 @@ fn confirm(
         return false;
     }
     stock.touch(&flight.what.key);
-    stock.write(
-        &flight.what.key,
-        Change {
-            fetch: Some(flight.number),
-            doubtful: false,
-            since: starts.newest(),
-            purged: purges.newest(),
-        },
-    );
+    let change = tried(starts, purges, Some(flight.number), false);
+    stock.write(&flight.what.key, change);
     true
 }
 
@@ -351,12 +361,7 @@ fn try_next(stock: &mut MarkedTable, starts: &Trials, purges: &Trials)
     match found {
         Standing::Sound => stock.pass(),
         Standing::Doubtful => {
-            stock.write_next(Change {
-                fetch: None,
-                doubtful: true,
-                since: starts.newest(),
-                purged: purges.newest(),
-            });
+            stock.write_next(tried(starts, purges, None, true));
             stock.pass();
         }
         Standing::Gone => stock.take_next(),

@@ -1,2 +1,4 @@
+pub mod ItemLemmas
 pub mod ListLemmas
+pub mod MarkLemmas
 pub mod OpenLemmas

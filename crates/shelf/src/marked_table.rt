@@ -1,9 +1,9 @@
 //! The table of kept objects, with what is noted of each.
 
-ghost use Rattle.std.specs.Prelude.{◌≡◌, ◌+◌, ◌-◌, ◌<◌, ◌≤◌, [], List, map, length, find, remove, slice_get, if◌then◌else◌, IfOk, OnOk, OnErr};
+ghost use Rattle.std.specs.Prelude.{◌≡◌, ◌+◌, ◌-◌, ◌<◌, ◌≤◌, [], List, map, length, find, remove, slice_get, Some, IfSome, IfNone, IfOk, OnOk, OnErr};
 ghost use Rattle.std.specs.Option.{option_map};
-ghost use Rattle.cdni_base.specs.Key.{KeyParts, same_key};
-ghost use Rattle.indexmap.specs.IndexMap.{get, index_map_len, spare};
+ghost use Rattle.cdni_base.specs.Key.{same_key};
+ghost use Rattle.indexmap.specs.IndexMap.{get, index_map_len, spare, IsUnchanged, Updates};
 ghost use Rattle.shelf.specs.MarkedTable.{evicted, is_filled, is_greater, marked_of, noted, others, remarked, total, used, filled, written, written_at, ArePassed};
 
 use cdni_base::{Body, Key};
@@ -272,8 +272,9 @@ fn body_length(body: &Body) -> u64
 
 // changes the note under the key, where there is one
 fn write_mark(marks: &mut IndexMap<Key, Mark>, key: &Key, change: Change)
-    ensures marks { (other : KeyParts) → get same_key marks.new other ≡ (if same_key key.now other
-        then option_map (remarked change) (get same_key marks.old other) else get same_key marks.old other) }
+    ensures written { IfSome (get same_key marks.old key.now) (λ mark.
+        Updates same_key marks.old marks.new key.now (Some (remarked change mark))) }
+    ensures none { IfNone (get same_key marks.old key.now) (IsUnchanged marks.old marks.new) }
     ensures len { index_map_len marks.new ≡ index_map_len marks.old }
     ensures room { spare marks.new ≡ spare marks.old }
 {

@@ -218,12 +218,8 @@ impl Edge {
                 self.hit(alloc, pass, of_collection(what, ccid, true), key, found)
             }
             Decision::Miss { key, ccid, plan } => {
-                let what_for = Fetching {
-                    key,
-                    ccid,
-                    base: None,
-                };
-                let (delivery, fetch) = self.wait(alloc, pass, what, what_for)?;
+                let fetching = fetching_for(key, ccid, None);
+                let (delivery, fetch) = self.wait(alloc, pass, what, fetching)?;
                 Ok(Admitted::Miss {
                     delivery,
                     fetch,
@@ -237,12 +233,8 @@ impl Edge {
                 tag,
                 plan,
             } => {
-                let what_for = Fetching {
-                    key,
-                    ccid,
-                    base: Some(found.fetch),
-                };
-                let (delivery, fetch) = self.wait(alloc, pass, what, what_for)?;
+                let fetching = fetching_for(key, ccid, Some(found.fetch));
+                let (delivery, fetch) = self.wait(alloc, pass, what, fetching)?;
                 Ok(Admitted::Check {
                     delivery,
                     fetch,
@@ -622,6 +614,13 @@ impl Edge {
             None => Ok(None),
         }
     }
+}
+
+// a fetch of this content, which asks for this base, where there is one
+fn fetching_for(key: Key, ccid: Option<Text>, base: Option<u64>) -> Fetching
+    ensures { result ≡ record { key = key; ccid = ccid; base = base } }
+{
+    Fetching { key, ccid, base }
 }
 
 // the keys of the documents of which the metadata was made, where there is any

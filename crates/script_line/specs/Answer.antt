@@ -138,6 +138,12 @@ abbrev pub kept_words : List ℕ → List ℕ → List ℕ → List ℕ
 kept_words kind tag body =
     SPACE ∷ [] ++ kind_word kind ++ SPACE ∷ [] ++ tag ++ SPACE ∷ [] ++ body_word body
 
+-- the answer of a delivery whose fetch asks for what is kept
+unfoldable pub check_line : Reply → List ℕ
+check_line (reply.Check delivery fetch base kind tag body plan) =
+    checked_words delivery fetch base ++ kept_words kind tag body ++ plan_text plan ++ LINE_FEED ∷ []
+check_line answer = []
+
 -- the answer of a reply, where this was noted of the call
 unfoldable pub answer_line : Reply → Option MetaFault → List ℕ
 answer_line (reply.Denied delivery rule) said =
@@ -149,7 +155,7 @@ answer_line (reply.Hit delivery fetch kind body) said =
     codes "hit " ++ decimal delivery ++ SPACE ∷ [] ++ decimal fetch ++ SPACE ∷ [] ++ kind_word kind
     ++ SPACE ∷ [] ++ body_word body ++ LINE_FEED ∷ []
 answer_line (reply.Check delivery fetch base kind tag body plan) said =
-    checked_words delivery fetch base ++ kept_words kind tag body ++ plan_text plan ++ LINE_FEED ∷ []
+    check_line (reply.Check delivery fetch base kind tag body plan)
 answer_line (reply.Ended kept) said = ended_text kept
 answer_line (reply.Full count) said = numbered (codes "full") count
 answer_line (reply.NotOpen number) said = numbered (codes "not-open") number

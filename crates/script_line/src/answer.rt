@@ -7,7 +7,7 @@ ghost use Rattle.script_line.specs.declared.grammar.TheConstants.{SPACE};
 ghost use Rattle.script_line.specs.declared.answer.TheConstants.{HEX_BLOCK, LINE_FEED};
 ghost use Rattle.hex.specs.Hex.{encode_lower};
 ghost use Rattle.trigger_status.specs.Job.{job_text, status_name};
-ghost use Rattle.script_line.specs.Answer.{checked_words, kept_words, kind_word, body_word, more_number, more_status, numbers_word, log_text, ended_text, numbered, endpoint_word, plan_text, cause_text, fault_text, failed_line, fetch_line, statuses_word, scripted_collection, trigger_line, refused_line, answer_line};
+ghost use Rattle.script_line.specs.Answer.{check_line, checked_words, kept_words, kind_word, body_word, more_number, more_status, numbers_word, log_text, ended_text, numbered, endpoint_word, plan_text, cause_text, fault_text, failed_line, fetch_line, statuses_word, scripted_collection, trigger_line, refused_line, answer_line};
 
 use crate::grammar::SPACE;
 use crate::own::{control_host, own_id};
@@ -69,20 +69,7 @@ pub fn put_reply_line(
             kind,
             body,
         } => put_hit(out, *delivery, *fetch, kind.bytes(), body.bytes()),
-        Reply::Check {
-            delivery,
-            fetch,
-            base,
-            kind,
-            tag,
-            body,
-            plan,
-        } => {
-            put_checked(out, *delivery, *fetch, *base)?;
-            put_kept(out, kind.bytes(), tag.bytes(), body.bytes())?;
-            put_plan(out, plan.as_slice())?;
-            put_byte(out, LINE_FEED)
-        }
+        Reply::Check { .. } => put_check(out, reply),
         Reply::Ended { kept } => put(out, ended_text(*kept)),
         Reply::Full { count } => put_numbered(out, b"full", *count),
         Reply::NotOpen { number } => put_numbered(out, b"not-open", *number),
@@ -336,6 +323,30 @@ fn put_hit(
     put_byte(out, SPACE)?;
     put_body(out, body)?;
     put_byte(out, LINE_FEED)
+}
+
+// adds the answer line of a delivery whose fetch asks for what is kept
+#[tactic(auto, unfolding(crate::specs::Answer::check_line))]
+fn put_check(out: &mut Vec<u8>, reply: &Reply) -> Result<(), AllocError>
+    ensures { OnOk result (out.new.items ≡ out.old.items ++ check_line reply.now) }
+{
+    match reply {
+        Reply::Check {
+            delivery,
+            fetch,
+            base,
+            kind,
+            tag,
+            body,
+            plan,
+        } => {
+            put_checked(out, *delivery, *fetch, *base)?;
+            put_kept(out, kind.bytes(), tag.bytes(), body.bytes())?;
+            put_plan(out, plan.as_slice())?;
+            put_byte(out, LINE_FEED)
+        }
+        _ => Ok(()),
+    }
 }
 
 // a delivery, its fetch and the base of that

@@ -1,3 +1,4 @@
+pub mod BegunLemmas
 pub mod ItemLemmas
 pub mod ListLemmas
 pub mod MarkLemmas

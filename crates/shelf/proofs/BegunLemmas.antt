@@ -111,4 +111,3 @@ past_twice oldest (s ∷ starts) = elim (cases_Bool (nat_lt oldest s.epoch)) [
   | inr earlier ↦ ap (past oldest) (cond-false (nat_lt oldest s.epoch) (s ∷ past oldest starts) (past oldest starts) earlier)
       ∙ past_twice oldest starts ∙ sym (cond-false (nat_lt oldest s.epoch) (s ∷ past oldest starts) (past oldest starts) earlier)
 ]
-

@@ -52,6 +52,11 @@ others key items = filter (λ one. not (is_of key one)) items
 abbrev pub used : KeyParts → List Marked → List Marked
 used key items = moved (is_of key) items
 
+-- no object has the key of one before it, nor of one of the first list, which stands before them all
+abbrev pub AreApart : List Marked → List Marked → Type 0
+AreApart before [] = Unit {0}
+AreApart before (one ∷ items) = (marked_of one.object.key before ≡ None) × AreApart (before ++ one ∷ []) items
+
 -- a note that has changed so
 abbrev pub noted : Note → Change → Note
 noted note change = record {

@@ -4,7 +4,7 @@ ghost use Rattle.std.specs.Prelude.{◌≡◌, ◌+◌, ◌-◌, ◌<◌, ◌≤
 ghost use Rattle.std.specs.Option.{option_map};
 ghost use Rattle.cdni_base.specs.Key.{same_key};
 ghost use Rattle.indexmap.specs.IndexMap.{get, index_map_len, spare, IsUnchanged, Updates};
-ghost use Rattle.shelf.specs.MarkedTable.{evicted, is_filled, is_greater, marked_of, noted, others, remarked, total, used, filled, written, written_at, ArePassed};
+ghost use Rattle.shelf.specs.MarkedTable.{evicted, is_filled, is_greater, marked_of, noted, others, remarked, total, used, filled, written, written_at, AreApart, ArePassed};
 
 use cdni_base::{Body, Key};
 use indexmap::IndexMap;
@@ -116,7 +116,8 @@ impl MarkedTable {
 
     /// The object that is kept under the key, and its mark.
     pub(crate) fn find(&self, key: &Key) -> Option<(&Object, &Mark)>
-        ensures { option_map (λ pair. record { object = pair.0.now; mark = pair.1.now }) result ≡ marked_of key.now self.now.items }
+        ensures found { option_map (λ pair. record { object = pair.0.now; mark = pair.1.now }) result ≡ marked_of key.now self.now.items }
+        ensures apart { AreApart [] self.now.items }
     {
         let object = self.table.find(key)?;
         let mark = self.marks.get(key)?;
@@ -130,13 +131,15 @@ impl MarkedTable {
           passed = self.new.passed;
         } }
         ensures passed { ArePassed self.old self.new }
+        ensures apart { AreApart [] self.old.items }
     {
         self.table.touch(key);
     }
 
     /// Changes the note of the object that is kept under the key. It takes no memory.
     pub(crate) fn write(&mut self, key: &Key, change: Change)
-        ensures { self.new ≡ record self.old { items = written key.now change self.old.items } }
+        ensures after { self.new ≡ record self.old { items = written key.now change self.old.items } }
+        ensures apart { AreApart [] self.old.items }
     {
         write_mark(&mut self.marks, key, change);
     }
@@ -148,6 +151,7 @@ impl MarkedTable {
           passed = self.new.passed;
         } }
         ensures passed { ArePassed self.old self.new }
+        ensures apart { AreApart [] self.old.items }
     {
         self.table.take(key);
         drop(self.marks.swap_remove(key));

@@ -257,7 +257,7 @@ gained_is w pass ends (Some begun) kept is = content_cases w begun kept (storabl
 -- ---- what is confirmed
 
 -- the base is kept where something is confirmed
-base_cases : (objects : List Kept) (base : Option ℕ) (kept : Kept) → option_and_then (λ b. kept_by b objects) base ≡ Some kept → (P : Type 0)
+pub base_cases : (objects : List Kept) (base : Option ℕ) (kept : Kept) → option_and_then (λ b. kept_by b objects) base ≡ Some kept → (P : Type 0)
     → ((b : ℕ) → base ≡ Some b → kept_by b objects ≡ Some kept → P) → P
 base_cases objects None kept is P each = absurd (none-some kept is)
 base_cases objects (Some b) kept is P each = each b refl is
@@ -266,10 +266,10 @@ unhit_cases : (hit : Bool) (o : Option Kept) (kept : Kept) → cond hit None o �
 unhit_cases true o kept is = absurd (none-some kept is)
 unhit_cases false o kept is = (refl, is)
 
-abbrev IsConfirmed : World → Outcome → Begun Fetching → Kept → Type 0
+abbrev pub IsConfirmed : World → Outcome → Begun Fetching → Kept → Type 0
 IsConfirmed w ends begun kept = (ends ≡ outcome.Unchanged) × (is_hit w.delivering begun ≡ false) × (option_and_then (λ b. kept_by b w.delivering.kept) begun.what.base ≡ Some kept)
 
-confirmed_cases : (w : World) (ends : Outcome) (begun : Begun Fetching) (kept : Kept) → confirmed_of w ends begun ≡ Some kept → IsConfirmed w ends begun kept
+pub confirmed_cases : (w : World) (ends : Outcome) (begun : Begun Fetching) (kept : Kept) → confirmed_of w ends begun ≡ Some kept → IsConfirmed w ends begun kept
 confirmed_cases w outcome.Unchanged begun kept is =
     let p = unhit_cases (is_hit w.delivering begun) (option_and_then (λ b. kept_by b w.delivering.kept) begun.what.base) kept is in (refl, p.0, p.1)
 confirmed_cases w (outcome.Got got) begun kept is = absurd (none-some kept is)

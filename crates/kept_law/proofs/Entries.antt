@@ -127,7 +127,7 @@ module _ (w : World) (pass fetch : ℕ) where
 
   abbrev nothing_came : (begun : Begun Fetching) (ended : Outcome) → IsFound begun → storable ended ≡ None → confirmed_of w ended begun ≡ None
       → FetchEnds w pass fetch ended (reply.Ended false) w.delivering.kept
-  nothing_came begun ended found none no = inr (inl (record { begun = begun; found = found; answer = refl; same = refl; refused = λ got full. absurd (none-some got (sym none ∙ full)); unconfirmed = no }))
+  nothing_came begun ended found none unconfirmed = inr (inl (record { begun = begun; found = found; answer = refl; same = refl; refused = λ got full. absurd (none-some got (sym none ∙ full)); unconfirmed = unconfirmed }))
 
   by_ended : (ended : Outcome) (begun : Begun Fetching) → IsFound begun
       → FetchEnds w pass fetch ended (fetch_end_reply w fetch ended (Some begun)) (with_confirmed fetch (so_kept (gained_of w ended begun)) (confirmed_of w ended begun))

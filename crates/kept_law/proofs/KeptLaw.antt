@@ -299,7 +299,10 @@ module _ (made : Made) (h : History) (e : Entry) (made_is : (world_of made h).ma
       | inl x ↦ begins (stock_after w e (reply_to made h e)) x
       | inr most ↦ elim most [
         | inl x ↦ moves (stock_after w e (reply_to made h e)) x
-        | inr x ↦ gains (stock_after w e (reply_to made h e)) x
+        | inr ended ↦ elim ended [
+          | inl x ↦ gains (stock_after w e (reply_to made h e)) x
+          | inr x ↦ confirms (stock_after w e (reply_to made h e)) x
+        ]
       ]
     ]
   ]))

@@ -38,7 +38,7 @@ module _ (leave : Kept → Option Kept) (alike : LeavesAlike leave) where
   module _ (R S : Kept → Kept → Type 0) (step : (a a' b b' : Kept) → IsAlike a a' → IsAlike b b' → R a b → S a' b') where
     pairs_with : (x : Kept) (o : Option Kept) (xs : List Kept) → leave x ≡ o → All (R x) xs → AllPairs S (filter_map leave xs) → AllPairs S (cons_option o (filter_map leave xs))
     pairs_with x None xs is first pairs = pairs
-    pairs_with x (Some y) xs is first pairs = AllPairs-cons y (filter_map leave xs) (all_thinned (R x) (S y) (λ b b' like r. step x y b b' (alike x y is) like r) xs first) pairs
+    pairs_with x (Some y) xs is first pairs = AllPairs-cons S y (filter_map leave xs) (all_thinned (R x) (S y) (λ b b' like r. step x y b b' (alike x y is) like r) xs first) pairs
 
     pub pairs_thinned : (xs : List Kept) → AllPairs R xs → AllPairs S (filter_map leave xs)
     pairs_thinned [] pairs = λ i j d order below. absurd (omega (arith, below))

@@ -123,7 +123,8 @@ module _ (w : World) (pass : ℕ) (request : Request) (moment : ℕ) where
   admits = admit_cases w pass request moment (Changes w admitted)
       (λ n. none_so w admitted (reply.Full n) refl refl)
       (λ rule. begins (reply.Denied (w.counts.delivered + 1) rule) refl refl refl)
-      (λ kept is. begins (reply.Hit (w.counts.delivered + 1) kept.fetch kept.kind kept.body) refl refl refl)
+      (λ kept is sure. begins (reply.Hit (w.counts.delivered + 1) kept.fetch kept.kind kept.body) refl refl refl)
+      (λ kept tag is doubtful some. begins (reply.Check (w.counts.delivered + 1) (w.counts.fetched + 1) kept.fetch kept.kind tag kept.body _) refl refl refl)
       (λ is. begins (reply.Miss (w.counts.delivered + 1) (w.counts.fetched + 1) _) refl refl refl)
 
 module _ (w : World) (pass delivery status total entity moment : ℕ) where

@@ -36,8 +36,8 @@ use Rattle.history.proofs.Cases.{either, opening_cases}
 use Rattle.history.specs.Event.{History, Admit, Request}
 use Rattle.history.specs.History.{reply_to, world_of}
 use Rattle.history.specs.Kept.{kept_of}
-use Rattle.history.specs.Metadata.{forbidden, is_served, key_at, rule_at, rule_by, rule_in}
-use Rattle.history.specs.Reply.{allowed_reply, judged_reply, pending, reply_in}
+use Rattle.history.specs.Metadata.{ccid_at, forbidden, is_served, key_at, rule_at, rule_by, rule_in}
+use Rattle.history.specs.Reply.{allowed_reply, judged_reply, pending, reply_in, doubted_reply, tag_for}
 use Rattle.history.specs.Steps.{first_hit, index_of, invalid_of}
 use Rattle.history.specs.World.{Delivering, Installed, Kept, Made, Start, World}
 use Rattle.history.specs.declared.reply.Reply.{Reply}
@@ -293,14 +293,19 @@ module _ (made : Made) (h : History) (request : Request) (moment : ℕ) where
   Agrees (reply.Denied delivery r) = the_rule ≡ Some r
   Agrees (reply.Hit delivery fetch kind body) = the_rule ≡ None
   Agrees (reply.Miss delivery fetch plan) = the_rule ≡ None
+  Agrees (reply.Check delivery fetch base kind tag body plan) = the_rule ≡ None
   Agrees answer = Unit {0}
 
   abbrev w : World
   w = world_of made h
 
+  doubted_agrees : (kept : Kept) (tag : Option (List ℕ)) → the_rule ≡ None → Agrees (doubted_reply w request.asked kept tag)
+  doubted_agrees kept None none = none
+  doubted_agrees kept (Some tag) none = none
+
   allowed_agrees : (kept : Option Kept) → the_rule ≡ None → Agrees (allowed_reply w request.asked kept)
   allowed_agrees None none = none
-  allowed_agrees (Some kept) none = none
+  allowed_agrees (Some kept) none = either Agrees kept.doubtful _ _ (doubted_agrees kept (tag_for (ccid_at (index_of d) request.asked.target) kept) none) none
 
   judged_agrees : (found : Option Rule) → the_rule ≡ found → Agrees (judged_reply w request.asked found)
   judged_agrees None none = allowed_agrees (kept_of (key_at (index_of d) request.asked.target) d.kept) none
@@ -313,6 +318,7 @@ module _ (made : Made) (h : History) (request : Request) (moment : ℕ) where
   no_rule : (answer : Reply) → Agrees answer → is_admitted answer ≡ true → the_rule ≡ None
   no_rule (reply.Hit delivery fetch kind body) none is = none
   no_rule (reply.Miss delivery fetch plan) none is = none
+  no_rule (reply.Check delivery fetch base kind tag body plan) none is = none
   no_rule answer none is = absurd (both_ways false refl is)
 
   pub denied_first : (pass delivery : ℕ) (r : Rule) → reply_to made h (pass, Admit request moment) ≡ reply.Denied delivery r → IsFirstToForbid made h request moment r

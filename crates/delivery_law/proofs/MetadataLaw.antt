@@ -78,7 +78,7 @@ InstallsNothing r = installation r ≡ None
 
 installs_nothing : (w : World) (e : Entry) → is_refresh_end e.1 ≡ false → InstallsNothing (reply_in w e)
 installs_nothing w (pass, RefreshEnd refresh tree moment) is = absurd (both_ways true is refl)
-installs_nothing w (pass, Admit request moment) is = admit_cases w pass request moment InstallsNothing (λ n. refl) (λ rule. refl) (λ kept is. refl) (λ is. refl)
+installs_nothing w (pass, Admit request moment) is = admit_cases w pass request moment InstallsNothing (λ n. refl) (λ rule. refl) (λ kept is sure. refl) (λ kept tag is doubtful some. refl) (λ is. refl)
 installs_nothing w (pass, FetchEnd fetch outcome moment) is = fetch_end_cases w pass InstallsNothing fetch outcome moment refl (λ a b. refl)
 installs_nothing w (pass, Finish delivery status total entity moment) is = finish_cases w pass InstallsNothing delivery status total entity moment refl refl
 installs_nothing w (pass, RefreshBegin moment) is = begin_cases w pass InstallsNothing moment (λ n. refl) (λ n. refl) refl

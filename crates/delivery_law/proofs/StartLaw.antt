@@ -156,6 +156,14 @@ untaken made h since P unhit at trigger active later hits =
     All-contains (λ (s : Start). since < s.at → P s.selection → ⊥) (world_of made h).delivering.starts so.0 unhit so.1
     (subst (λ n. since < n) (sym so.2.position_is) later) (subst P (sym so.2.selection_is) hits)
 
+-- nor does a purge that became active hit what no start of a purge hits
+pub unpurged : (made : Made) (h : History) (since : ℕ) (P : Selection → Type 0) → All (λ (s : Start). s.kind ≡ Purge → since < s.at → P s.selection → ⊥) (world_of made h).delivering.starts
+    → (at : ℕ) (trigger : Trigger) → BecameActive made h at trigger → since < at → trigger.job.spec.kind ≡ Purge → P trigger.job.spec.selection → ⊥
+unpurged made h since P free at trigger active later purge hits =
+    let so = each_active made h at trigger active in
+    All-contains (λ (s : Start). s.kind ≡ Purge → since < s.at → P s.selection → ⊥) (world_of made h).delivering.starts so.0 free so.1
+    (so.2.kind_is ∙ purge) (subst (λ n. since < n) (sym so.2.position_is) later) (subst P (sym so.2.selection_is) hits)
+
 -- and the other way round
 pub unhit_by : (made : Made) (h : History) (since : ℕ) (P : Selection → Type 0)
     → ((at : ℕ) (trigger : Trigger) → BecameActive made h at trigger → since < at → P trigger.job.spec.selection → ⊥)

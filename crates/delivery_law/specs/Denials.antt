@@ -23,6 +23,7 @@ use Rattle.delivery_law.specs.Starts.{BecameActive, StartsWith}
 abbrev pub is_admitted : Reply → Bool
 is_admitted (reply.Hit delivery fetch kind body) = true
 is_admitted (reply.Miss delivery fetch plan) = true
+is_admitted (reply.Check delivery fetch base kind tag body plan) = true
 is_admitted _ = false
 
 -- no metadata was installed

@@ -25,6 +25,7 @@ is_read_from_metadata _ = true
 abbrev pub uses_metadata : Reply → Bool
 uses_metadata (reply.Hit delivery fetch kind body) = true
 uses_metadata (reply.Miss delivery fetch plan) = true
+uses_metadata (reply.Check delivery fetch base kind tag body plan) = true
 uses_metadata (reply.Denied delivery rule) = is_read_from_metadata rule
 uses_metadata _ = false
 

@@ -1,6 +1,7 @@
 -- Starts by their positions: where an invalidate or a purge became active.
 use Rattle.std.specs.Prelude.{◌≡◌, ◌⊎◌, ℕ, ◌<◌, List, Some}
 use Rattle.std.specs.List.{Any}
+use Rattle.std.specs.declared.option.Option.{Option}
 use Rattle.cdni_base.specs.Key.{KeyParts}
 use Rattle.trigger_command.specs.Selection.{Hits, HitsMetadata}
 use Rattle.trigger_command.specs.declared.spec.TriggerKind.{TriggerKind}
@@ -9,7 +10,6 @@ use Rattle.history.specs.Event.{History, Advance}
 use Rattle.history.specs.History.{AnsweredAt, world_of}
 use Rattle.history.specs.Steps.{trigger_of}
 use Rattle.history.specs.World.{Made, Start, Trigger}
-use Rattle.history.specs.declared.begun.Fetching.{Fetching}
 use Rattle.history.specs.declared.reply.Reply.TheVariants as reply
 
 -- an invalidate or a purge
@@ -32,10 +32,15 @@ pub record BecameActive (made : Made) (h : History) (at : ℕ) (trigger : Trigge
   pub this : trigger_of id (world_of made answered.before).controlling.triggers ≡ Some trigger
   pub takes_back : TakesBack trigger.job.spec.kind
 
--- no invalidate or purge that became active after this position hits what this fetch is of
-abbrev pub NoneTookBack : Made → History → ℕ → Fetching → Type 0
-NoneTookBack made h since what = (at : ℕ) (trigger : Trigger) → BecameActive made h at trigger → since < at
-    → Hits trigger.job.spec.selection what.key what.ccid → ⊥
+-- no invalidate or purge that became active after this position hits this key or this collection
+abbrev pub NoneTookBack : Made → History → ℕ → KeyParts → Option (List ℕ) → Type 0
+NoneTookBack made h since key ccid = (at : ℕ) (trigger : Trigger) → BecameActive made h at trigger → since < at
+    → Hits trigger.job.spec.selection key ccid → ⊥
+
+-- no purge that became active after this position hits them
+abbrev pub NonePurged : Made → History → ℕ → KeyParts → Option (List ℕ) → Type 0
+NonePurged made h since key ccid = (at : ℕ) (trigger : Trigger) → BecameActive made h at trigger → since < at
+    → trigger.job.spec.kind ≡ Purge → Hits trigger.job.spec.selection key ccid → ⊥
 
 -- none hits one of these documents
 abbrev pub NoneTookBackMetadata : Made → History → ℕ → List KeyParts → Type 0

@@ -7,7 +7,7 @@ use Rattle.cdni_base.specs.Key.{KeyParts, same_key}
 use Rattle.rows.specs.Row.{moved}
 use Rattle.trigger_command.specs.Selection.{hits}
 use Rattle.trigger_command.specs.declared.spec.TriggerKind.{TriggerKind}
-use Rattle.trigger_command.specs.declared.spec.TriggerKind.TheVariants.{Preposition, Invalidate, Purge}
+use Rattle.trigger_command.specs.declared.spec.TriggerKind.TheVariants.{Invalidate}
 use Rattle.upstream_gate.specs.Got.{GotParts}
 use Rattle.upstream_gate.specs.declared.outcome.Outcome.{Outcome}
 use Rattle.upstream_gate.specs.declared.outcome.Outcome.TheVariants as outcome
@@ -130,9 +130,8 @@ with_confirmed fetch objects (Some kept) = others kept.key objects ++ confirmed_
 -- what a start leaves of an object that it hits (RFC 8007, sections 4.2 and 4.3): a purge nothing, and an invalidate what has
 -- a tag, by which it can be confirmed
 abbrev pub left_by : TriggerKind → Kept → Option Kept
-left_by Purge kept = None
 left_by Invalidate kept = option_map (λ tag. record kept { doubtful = true }) kept.tag
-left_by Preposition kept = Some kept
+left_by kind kept = None
 
 -- what it leaves of any object
 abbrev pub left_of : Start → Kept → Option Kept

@@ -1,12 +1,14 @@
 -- What is kept, over histories: of different keys, within the limit, the least recently used first.
 use Rattle.std.proofs.Common.{◌≡◌, ℕ, ◌+◌, ◌<◌, ◌≤◌, ◌==◌, Bool, true, false, not, ◌&&◌, List, [], ◌∷◌, ◌++◌, All, AllPairs, length, get_or, refl, sym, ap, ◌∙◌, subst, inl, inr, ◌⊎◌, None, Some, Option, nat_le, nat_lt, arith}
 use Rattle.std.specs.Bool.{⊤}
-use Rattle.std.specs.List.{filter, find, list_any}
+use Rattle.std.specs.List.{filter, filter_map, find, list_any}
 use Rattle.std.specs.Option.{option_and_then, option_to_list}
 use Rattle.std.proofs.lemmas.Bool.{and_from, and_left, and_parts, and_right, both_ways, cases_Bool, cond-false, cond-true, eq-eqb, eqb-true, false_from_ne_true, le-leb, le-ltb, leb-true, ltb-false, ltb-true, not-true, not_from_false}
-use Rattle.std.proofs.lemmas.List.Elements.{All-cons, All-filter, All-nil, All-push, All-weaker, filter_passes}
+use Rattle.std.proofs.lemmas.List.Elements.{All-cons, All-filter, All-head, All-nil, All-push, All-weaker, filter_passes}
 use Rattle.std.proofs.lemmas.List.Kept.{AllPairs-filter}
 use Rattle.std.proofs.lemmas.List.Quantifiers.{all_pairs_push}
+use Rattle.std.proofs.lemmas.List.Sums.{sum_by-append}
+use Rattle.std.proofs.lemmas.Option.{none-some, same_Some}
 use Rattle.cdni_base.specs.Key.{KeyParts}
 use Rattle.cdni_base.specs.KeyEqualityLemmas.{key_decides}
 use Rattle.trigger_command.proofs.SelectionLemmas.{hits_decides}
@@ -18,8 +20,8 @@ use Rattle.upstream_gate.specs.declared.outcome.Outcome.{Outcome}
 use Rattle.upstream_gate.specs.declared.outcome.Outcome.TheVariants as outcome
 use Rattle.delivery_law.specs.Fetches.{FetchBegan, index_after}
 use Rattle.delivery_law.specs.Starts.{TakesBack}
-use Rattle.delivery_law.proofs.Entries.{full_cases, kept_are}
-use Rattle.delivery_law.proofs.FetchLaw.{fetch_law, not_since}
+use Rattle.delivery_law.proofs.Entries.{base_cases, confirmed_cases, kept_are, storable_cases}
+use Rattle.delivery_law.proofs.FetchLaw.{WasKept, fetch_law, not_since}
 use Rattle.delivery_law.proofs.Lists.{found_any, found_is, none_found}
 use Rattle.delivery_law.proofs.LogLaw.{first_pairs, rest_pairs}
 use Rattle.delivery_law.proofs.Places.{answered_push, from_right, length_push as entries_push, longer, within}
@@ -29,19 +31,20 @@ use Rattle.history.proofs.Words.{world_none, world_push}
 use Rattle.history.specs.After.{after, after_reply, closed, kept_after, position, start_by, start_of}
 use Rattle.history.specs.Event.{Entry, History, Admit, FetchEnd, Finish, RefreshBegin, RefreshEnd, Command, Advance, Cancel, Delete, ReadStatus, Lists, Cut, LogFile, ListLogs, DropLog, Request}
 use Rattle.history.specs.History.{reply_to, world_of}
-use Rattle.history.specs.Kept.{brought, full_content, is_hit_since, is_newer, is_of, kept_of, others, unhit}
+use Rattle.history.specs.Kept.{brought, confirmed_by, is_hit_since, is_newer, is_of, kept_by, kept_of, left_after, others, size_of, storable}
 use Rattle.history.specs.Metadata.{key_at}
-use Rattle.history.specs.Reply.{advance_reply, is_hit, reply_in}
+use Rattle.history.specs.Reply.{advance_reply, confirmed_of, is_hit, reply_in}
 use Rattle.history.specs.Steps.{trigger_of}
 use Rattle.history.specs.World.{Begun, Kept, Made, Start, Trigger, World, is_open}
 use Rattle.history.specs.declared.begun.Fetching.{Fetching}
 use Rattle.history.specs.declared.reply.Reply.{Reply}
 use Rattle.history.specs.declared.reply.Reply.TheVariants as reply
-use Rattle.kept_law.specs.KeptObjects.{AreOthers, EndsFetch, GivesObject, KeepsObjects, LeavesObjects, MakesRoom, MayBeKept, StartsTrigger, Uses, WasLastUsed, WasUsed, bytes_of}
-use Rattle.kept_law.proofs.Entries.{Begins, Fewer, Gains, Grows, IsGood, Moves, Refuses, Stock, change, fetch_ends, stock_after, stock_is, stock_of}
-use Rattle.kept_law.proofs.Lists.{around, all_behind, none_any, others_differ, pairs_behind}
-use Rattle.kept_law.proofs.Rooms.{fewer_bytes, moved_bytes, room, within_evicted}
-use Rattle.kept_law.proofs.Stock.{Apart, KeptDiffer, apart_begins, apart_fewer, apart_grows, apart_moves}
+use Rattle.kept_law.specs.KeptObjects.{AreDoubted, AreOthers, EndsFetch, GivesObject, KeepsObjects, LeavesObjects, MakesRoom, MayBeKept, MayConfirm, StartsTrigger, Uses, WasFetched, WasLastUsed, WasUsed, bytes_of}
+use Rattle.kept_law.proofs.Entries.{Begins, Confirms, Fewer, Gains, Grows, IsGood, Moves, Refuses, Renews, Stock, change, fetch_ends, stock_after, stock_is, stock_of}
+use Rattle.kept_law.proofs.Lists.{around, all_behind, found_parts, none_any, others_differ, pairs_behind}
+use Rattle.kept_law.proofs.Rooms.{moved_bytes, room, within_evicted}
+use Rattle.kept_law.proofs.Stock.{Apart, KeptDiffer, apart_begins, apart_grows, apart_moves, apart_thinned}
+use Rattle.kept_law.proofs.Thinned.{all_thinned, bytes_thinned, filtered, pairs_thinned}
 
 abbrev KeysDiffer : Kept → Kept → Type 0
 KeysDiffer a b = a.key ≡ b.key → ⊥
@@ -123,6 +126,20 @@ module _ (made : Made) (h : History) (e : Entry) where
   order_push xs one unused uses pairs = all_pairs_push (IsBefore made h') xs one (order_stays xs unused pairs) (λ i d below first second before now.
       (let old = was_last (get_or xs i d).fetch first (unused i d below) before in let low = within old.used.answered in let high = now.last (length h + 1) (used_here one.fetch uses) in omega (arith, low, high)))
 
+-- where no two have one key, one that was found is the one of its key
+found_by_key : (test : Kept → Bool) (xs : List Kept) (one : Kept) → AllPairs KeysDiffer xs → find test xs ≡ Some one → kept_of one.key xs ≡ Some one
+found_by_key test [] one pairs is = absurd (none-some one is)
+found_by_key test (x ∷ xs) one pairs is = elim (cases_Bool (test x)) [
+  | inl passes ↦
+      let same : x ≡ one = same_Some x one (sym (cond-true (test x) (Some x) (find test xs) passes) ∙ is) in
+      cond-true (is_of one.key x) (Some x) (kept_of one.key xs) ((key_decides one.key x.key).1 (sym (ap (λ (k : Kept). k.key) same))) ∙ ap Some same
+  | inr fails ↦
+      let found : find test xs ≡ Some one = sym (cond-false (test x) (Some x) (find test xs) fails) ∙ is in
+      let other : KeysDiffer x one = (found_is (KeysDiffer x) test xs one (first_pairs KeysDiffer x xs pairs) found).0 in
+      cond-false (is_of one.key x) (Some x) (kept_of one.key xs) (false_from_ne_true (is_of one.key x) (λ passes. other (sym ((key_decides one.key x.key).0 passes))))
+      ∙ found_by_key test xs one (rest_pairs KeysDiffer x xs pairs) found
+]
+
 -- ---- over histories
 
 -- what is said of what is kept
@@ -141,13 +158,17 @@ module _ (made : Made) (h : History) (e : Entry) (made_is : (world_of made h).ma
   none_uses unused xs = λ i d below. unused (get_or xs i d).fetch
 
   fewer : (new : Stock) → Fewer w e (reply_to made h e) new → Shelf made (h ++ e ∷ []) new
-  fewer new x = subst (Shelf made (h ++ e ∷ [])) (sym x.fewer) (record {
-    apart = apart_fewer w.delivering.kept w.delivering.fetches w.counts.fetched law.apart x.keep x.stay;
-    keys = AllPairs-filter KeysDiffer x.keep w.delivering.kept law.keys;
-    fits = (let less = fewer_bytes x.keep w.delivering.kept in let most = law.fits in omega (arith, less, most));
-    used = used_stay made h e (filter x.keep w.delivering.kept) (none_uses x.unused (filter x.keep w.delivering.kept)) (All-filter x.keep (WasEverUsed made h) w.delivering.kept law.used);
-    in_order = order_stays made h e (filter x.keep w.delivering.kept) (none_uses x.unused (filter x.keep w.delivering.kept)) (AllPairs-filter (IsBefore made h) x.keep w.delivering.kept law.in_order);
-  })
+  fewer new x =
+      let rest : List Kept = filter_map x.leave w.delivering.kept in
+      subst (Shelf made (h ++ e ∷ [])) (sym x.fewer) (record {
+        apart = apart_thinned w.delivering.kept w.delivering.fetches w.counts.fetched law.apart x.leave x.alike x.stay;
+        keys = pairs_thinned x.leave x.alike KeysDiffer KeysDiffer (λ a a' b b' one two other same. other (sym one.key ∙ same ∙ two.key)) w.delivering.kept law.keys;
+        fits = (let less = bytes_thinned x.leave x.alike w.delivering.kept in let most = law.fits in omega (arith, less, most));
+        used = used_stay made h e rest (none_uses x.unused rest) (all_thinned x.leave x.alike (WasEverUsed made h) (WasEverUsed made h)
+            (λ k k' like was. subst (λ (n : ℕ). (at : ℕ) × WasLastUsed made h n at) (sym like.fetch) was) w.delivering.kept law.used);
+        in_order = order_stays made h e rest (none_uses x.unused rest) (pairs_thinned x.leave x.alike (IsBefore made h) (IsBefore made h)
+            (λ a a' b b' one two before first second was_first was_second. before first second (subst (λ (n : ℕ). WasLastUsed made h n first) one.fetch was_first) (subst (λ (n : ℕ). WasLastUsed made h n second) two.fetch was_second)) w.delivering.kept law.in_order);
+      })
 
   begins : (new : Stock) → Begins w e (reply_to made h e) new → Shelf made (h ++ e ∷ []) new
   begins new x = subst (Shelf made (h ++ e ∷ [])) (sym x.more) (record {
@@ -219,6 +240,58 @@ module _ (made : Made) (h : History) (e : Entry) (made_is : (world_of made h).ma
       } in
       subst (Shelf made (h ++ e ∷ [])) (λ i. record { kept = sym making.whole i; opened = sym x.opened i; fetched = sym x.fetched i }) shelf
 
+  -- ---- what is confirmed
+
+  module _ (kept : List Kept) (fetch : ℕ) (ended : Outcome) (g : Renews w e.0 fetch ended (reply_to made h e) kept) where
+    abbrev renewed : Kept
+    renewed = confirmed_by fetch g.one
+
+    abbrev the_rest : List Kept
+    the_rest = others g.one.key w.delivering.kept
+
+    renewed_number : g.begun.number ≡ fetch
+    renewed_number = eqb-true g.begun.number fetch (and_parts (g.begun.number == fetch) (g.begun.pass == e.0) (found_is (λ f. ⊤) (is_open fetch e.0) w.delivering.fetches g.begun (λ i d below. tt) g.found).1).0
+
+    rest_differ : All (λ k. KeysDiffer k renewed) the_rest
+    rest_differ = All-weaker (λ k. not (is_of g.one.key k) ≡ true) (λ k. KeysDiffer k renewed) (λ k is. other_key g.one.key k (not-true (is_of g.one.key k) is)) the_rest
+        (filter_passes (λ k. not (is_of g.one.key k)) w.delivering.kept)
+
+    -- it is the one that is kept under its key
+    found_by_base : (base : Option ℕ) → option_and_then (λ b. kept_by b w.delivering.kept) base ≡ Some g.one → kept_of g.one.key w.delivering.kept ≡ Some g.one
+    found_by_base None is = absurd (none-some g.one is)
+    found_by_base (Some b) is = found_by_key (λ (k : Kept). k.fetch == b) w.delivering.kept g.one law.keys is
+
+    the_kept_one : kept_of g.one.key w.delivering.kept ≡ Some g.one
+    the_kept_one = found_by_base g.begun.what.base (confirmed_cases w ended g.begun g.one g.confirmed).2
+
+    rest_fits : bytes_of (the_rest ++ renewed ∷ []) ≤ bytes_of w.delivering.kept
+    rest_fits =
+        let less = moved_bytes (is_of g.one.key) w.delivering.kept g.one the_kept_one in
+        let one : bytes_of (the_rest ++ g.one ∷ []) ≡ bytes_of the_rest + bytes_of (g.one ∷ []) = sum_by-append size_of the_rest (g.one ∷ []) in
+        let new : bytes_of (the_rest ++ renewed ∷ []) ≡ bytes_of the_rest + bytes_of (renewed ∷ []) = sum_by-append size_of the_rest (renewed ∷ []) in
+        let same : bytes_of (renewed ∷ []) ≡ bytes_of (g.one ∷ []) = refl in
+        omega (arith, less, one, new, same)
+
+  confirms : (new : Stock) → Confirms w e (reply_to made h e) new → Shelf made (h ++ e ∷ []) new
+  confirms new x =
+      let g = x.renews in
+      let one : Kept = renewed new.kept x.fetch x.ended g in
+      let rest : List Kept = the_rest new.kept x.fetch x.ended g in
+      let number = renewed_number new.kept x.fetch x.ended g in
+      let test : Kept → Bool = λ k. not (is_of g.one.key k) in
+      let unused : All (IsUnused made h e) rest = All-filter test (IsUnused made h e) w.delivering.kept
+      (All-weaker (λ k. All (λ (f : Begun Fetching). f.number ≡ k.fetch → ⊥) w.delivering.fetches) (IsUnused made h e)
+      (λ k shut uses. (found_is (λ (f : Begun Fetching). f.number ≡ k.fetch → ⊥) (is_open x.fetch e.0) w.delivering.fetches g.begun shut g.found).0 (number ∙ sym (x.only k.fetch uses))) w.delivering.kept law.apart.shut) in
+      let shelf : Shelf made (h ++ e ∷ []) (record { kept = rest ++ one ∷ []; opened = closed x.fetch e.0 w.delivering.fetches; fetched = w.counts.fetched }) = record {
+        apart = apart_grows w.delivering.kept w.delivering.fetches w.counts.fetched law.apart x.fetch e.0 g.begun test [] rest one g.found (sym number) refl;
+        keys = all_pairs_push KeysDiffer rest one (AllPairs-filter KeysDiffer test w.delivering.kept law.keys) (rest_differ new.kept x.fetch x.ended g);
+        fits = (let less = rest_fits new.kept x.fetch x.ended g in let most = law.fits in omega (arith, less, most));
+        used = All-push (WasEverUsed made (h ++ e ∷ [])) rest one (used_stay made h e rest unused (All-filter test (WasEverUsed made h) w.delivering.kept law.used))
+            (length h + 1, last_here made h e one.fetch x.this);
+        in_order = order_push made h e rest one unused x.this (AllPairs-filter (IsBefore made h) test w.delivering.kept law.in_order);
+      } in
+      subst (Shelf made (h ++ e ∷ [])) (λ i. record { kept = sym g.more i; opened = sym x.opened i; fetched = sym x.fetched i }) shelf
+
   shelf_push : Shelf made (h ++ e ∷ []) (stock_of (world_of made (h ++ e ∷ [])))
   shelf_push = subst (λ v. Shelf made (h ++ e ∷ []) (stock_of v)) (sym (world_push made h e)) (subst (Shelf made (h ++ e ∷ [])) (sym (stock_is w e)) (elim (change w e) [
     | inl x ↦ fewer (stock_after w e (reply_to made h e)) x
@@ -226,7 +299,10 @@ module _ (made : Made) (h : History) (e : Entry) (made_is : (world_of made h).ma
       | inl x ↦ begins (stock_after w e (reply_to made h e)) x
       | inr most ↦ elim most [
         | inl x ↦ moves (stock_after w e (reply_to made h e)) x
-        | inr x ↦ gains (stock_after w e (reply_to made h e)) x
+        | inr ended ↦ elim ended [
+          | inl x ↦ gains (stock_after w e (reply_to made h e)) x
+          | inr x ↦ confirms (stock_after w e (reply_to made h e)) x
+        ]
       ]
     ]
   ]))
@@ -290,8 +366,8 @@ not_hit at what starts free = none_any (λ (start : Start). nat_lt at start.at &
       | inr early ↦ and_left (nat_lt at start.at) (hits start.selection what.key what.ccid) early
     ]) starts free)
 
-full_of : (ended : Outcome) (got : GotParts) → ended ≡ outcome.Got got → got.status ≡ 200 → full_content ended ≡ Some got
-full_of ended got is status = ap full_content is ∙ cond-true (got.status == 200) (Some got) None (eq-eqb got.status 200 status)
+storable_of : (ended : Outcome) (got : GotParts) → ended ≡ outcome.Got got → got.status ≡ 200 → got.store ≡ true → storable ended ≡ Some got
+storable_of ended got is status may = ap storable is ∙ cond-true (got.status == 200 && got.store) (Some got) None (and_from (got.status == 200) got.store (eq-eqb got.status 200 status) may)
 
 module _ (made : Made) (h : History) where
   abbrev v : World
@@ -304,30 +380,64 @@ module _ (made : Made) (h : History) where
   the_shelf = (shelf_law made h).shelf
 
   module _ (e : Entry) (ended : Outcome) (begun : Begun Fetching) where
-    may_be : (got : GotParts) → full_content ended ≡ Some got → IsGood v begun got ≡ true → MayBeKept made h begun.number begun.at begun.what ended
+    may_be : (got : GotParts) → storable ended ≡ Some got → IsGood v begun got ≡ true → MayBeKept made h begun.number begun.at begun.what ended
     may_be got full good =
-        let content = full_cases ended got full in
+        let content = storable_cases ended got full in
         let both = and_parts (nat_le (length got.body) v.made.limits.cache && not (is_newer begun.number (kept_of begun.what.key v.delivering.kept))) (not (is_hit v.delivering begun)) good in
         let parts = and_parts (nat_le (length got.body) v.made.limits.cache) (not (is_newer begun.number (kept_of begun.what.key v.delivering.kept))) both.0 in
         record {
           got = got;
           content = content.0;
           status = content.1;
+          storable = content.2;
           fits = subst (λ (m : Made). length got.body ≤ m.limits.cache) made_now (leb-true (length got.body) v.made.limits.cache parts.0);
           newest = newest_all begun.number begun.what.key v.delivering.kept the_shelf.keys (not-true (is_newer begun.number (kept_of begun.what.key v.delivering.kept)) parts.1);
           unhit = not_since made h e begun.at begun.what v.delivering.starts (not-true (is_hit v.delivering begun) both.1);
         }
 
-    must_be : MayBeKept made h begun.number begun.at begun.what ended → (got : GotParts) × (full_content ended ≡ Some got) × (IsGood v begun got ≡ true)
+    must_be : MayBeKept made h begun.number begun.at begun.what ended → (got : GotParts) × (storable ended ≡ Some got) × (IsGood v begun got ≡ true)
     must_be may = (
       may.got,
-      full_of ended may.got may.content may.status,
+      storable_of ended may.got may.content may.status may.storable,
       and_from (nat_le (length may.got.body) v.made.limits.cache && not (is_newer begun.number (kept_of begun.what.key v.delivering.kept))) (not (is_hit v.delivering begun))
           (and_from (nat_le (length may.got.body) v.made.limits.cache) (not (is_newer begun.number (kept_of begun.what.key v.delivering.kept)))
           (le-leb (length may.got.body) v.made.limits.cache (subst (λ (m : Made). length may.got.body ≤ m.limits.cache) (sym made_now) may.fits))
           (not_from_false (is_newer begun.number (kept_of begun.what.key v.delivering.kept)) (none_newer begun.number begun.what.key v.delivering.kept may.newest (kept_of begun.what.key v.delivering.kept) refl)))
           (not_from_false (is_hit v.delivering begun) (not_hit begun.at begun.what v.delivering.starts may.unhit)),
     )
+
+    -- what may be confirmed is
+    must_confirm : MayConfirm made h begun.at begun.what ended → confirmed_of v ended begun ≡ None → ⊥
+    must_confirm may none =
+        let free : is_hit v.delivering begun ≡ false = not_hit begun.at begun.what v.delivering.starts may.unhit in
+        let this : confirmed_of v ended begun ≡ kept_by may.base v.delivering.kept =
+        ap (λ o. confirmed_of v o begun) may.unchanged ∙ cond-false (is_hit v.delivering begun) None (option_and_then (λ b. kept_by b v.delivering.kept) begun.what.base) free
+        ∙ ap (option_and_then (λ b. kept_by b v.delivering.kept)) may.base_is in
+        let all : All (λ (k : Kept). (k.fetch == may.base) ≡ false) v.delivering.kept = none_found (λ (k : Kept). k.fetch == may.base) v.delivering.kept (sym this ∙ none) in
+        let behind = all_behind (λ (k : Kept). (k.fetch == may.base) ≡ false) may.before (may.one ∷ may.behind) (subst (All (λ (k : Kept). (k.fetch == may.base) ≡ false)) may.parts all) in
+        both_ways (may.one.fetch == may.base) (All-head (λ (k : Kept). (k.fetch == may.base) ≡ false) may.one may.behind behind) (eq-eqb may.one.fetch may.base may.fetch_is)
+
+    may_confirm : (one : Kept) → confirmed_of v ended begun ≡ Some one → MayConfirm made h begun.at begun.what ended × (begun.what.base ≡ Some one.fetch)
+    may_confirm one is =
+        let so = confirmed_cases v ended begun one is in
+        base_cases v.delivering.kept begun.what.base one so.2 (MayConfirm made h begun.at begun.what ended × (begun.what.base ≡ Some one.fetch)) (λ b base there.
+        let sides = found_parts (λ (k : Kept). k.fetch == b) v.delivering.kept one there in
+        let found = found_is (λ k. ⊤) (λ (k : Kept). k.fetch == b) v.delivering.kept one (λ i d below. tt) there in
+        let same : one.fetch ≡ b = eqb-true one.fetch b found.1 in
+        (
+          record {
+            base = b;
+            base_is = base;
+            unchanged = so.0;
+            before = sides.0;
+            one = one;
+            behind = sides.1;
+            parts = sides.2;
+            fetch_is = same;
+            unhit = not_since made h e begun.at begun.what v.delivering.starts so.1;
+          },
+          base ∙ ap Some (sym same),
+        ))
 
   module _ (pass fetch : ℕ) (ended : Outcome) (moment : ℕ) where
     abbrev fetch_end : Entry
@@ -352,13 +462,14 @@ module _ (made : Made) (h : History) where
       what = x.begun.what;
       begun = has_begun x.begun x.found;
       was_open = found_any (is_open fetch pass) v.delivering.fetches x.begun x.found;
-      may = inr (
+      may = inr (inr (
         (λ may.
             let good = must_be fetch_end ended x.begun (subst (λ n. MayBeKept made h n x.begun.at x.begun.what ended) (sym (this_number x.begun x.found)) may) in
             both_ways (IsGood v x.begun good.0) (x.refused good.0 good.1) good.2),
+        (λ may. must_confirm fetch_end ended x.begun may x.unconfirmed),
         x.answer,
         x.same,
-      );
+      ));
     }
 
     grows : (objects : List Kept) → Grows v pass fetch ended (reply_to made h fetch_end) objects → EndsFetch made h pass fetch ended (reply_to made h fetch_end) objects
@@ -372,21 +483,50 @@ module _ (made : Made) (h : History) where
         x.answer,
         record {
           got = x.got;
-          content = (full_cases ended x.got x.full).0;
+          content = (storable_cases ended x.got x.full).0;
           others = others x.begun.what.key v.delivering.kept;
           apart = (is_of x.begun.what.key, (λ k. (λ is. sym ((key_decides x.begun.what.key k.key).0 is), λ same. (key_decides x.begun.what.key k.key).1 (sym same))), refl);
-          room = subst (λ n. MakesRoom made.limits.cache (others x.begun.what.key v.delivering.kept) (record { fetch = n; key = x.begun.what.key; ccid = x.begun.what.ccid; kind = x.got.kind; body = x.got.body }) objects) (this_number x.begun x.found)
+          room = subst (λ n. MakesRoom made.limits.cache (others x.begun.what.key v.delivering.kept) (record { fetch = n; origin = n; key = x.begun.what.key; ccid = x.begun.what.ccid; kind = x.got.kind; tag = x.got.tag; body = x.got.body; doubtful = false }) objects) (this_number x.begun x.found)
               (subst (λ (m : Made). MakesRoom m.limits.cache (others x.begun.what.key v.delivering.kept) (brought x.begun.number x.begun.what x.got) objects) made_now (the_room made h fetch_end made_now the_shelf objects fetch ended x));
         },
       );
     }
+
+    renews : (objects : List Kept) → Renews v pass fetch ended (reply_to made h fetch_end) objects → EndsFetch made h pass fetch ended (reply_to made h fetch_end) objects
+    renews objects x =
+        let key : KeyParts = x.one.key in
+        let passes : AllPairs (λ (a b : Kept). is_of key a ≡ true → is_of key b ≡ false) v.delivering.kept = λ i j d order below passes. false_from_ne_true (is_of key (get_or v.delivering.kept j d)) (λ also.
+            the_shelf.keys i j d order below (sym ((key_decides key (get_or v.delivering.kept i d).key).0 passes) ∙ (key_decides key (get_or v.delivering.kept j d).key).0 also)) in
+        let sides = around (is_of key) v.delivering.kept x.one passes (the_kept_one made h fetch_end made_now the_shelf objects fetch ended x) in
+        let may = may_confirm fetch_end ended x.begun x.one x.confirmed in
+        record {
+          at = x.begun.at;
+          what = x.begun.what;
+          begun = has_begun x.begun x.found;
+          was_open = found_any (is_open fetch pass) v.delivering.fetches x.begun x.found;
+          may = inr (inl (
+            may.0,
+            x.answer,
+            record {
+              before = sides.before;
+              one = x.one;
+              behind = sides.behind;
+              parts = sides.parts;
+              base_is = may.1;
+              whole = x.more ∙ ap (λ k. k ++ confirmed_by fetch x.one ∷ []) sides.others;
+            },
+          ));
+        }
 
     fetch_leaves : LeavesObjects made h fetch_end (reply_to made h fetch_end) (kept_after v fetch_end (reply_to made h fetch_end))
     fetch_leaves = elim (fetch_ends v pass fetch ended moment) [
       | inl x ↦ inr ((λ is. both_ways (list_any (is_open fetch pass) v.delivering.fetches) (none_any (is_open fetch pass) v.delivering.fetches (none_found (is_open fetch pass) v.delivering.fetches x.none)) is), x.answer, x.same)
       | inr more ↦ elim more [
         | inl x ↦ inl (refuses (reply_to made h fetch_end) (kept_after v fetch_end (reply_to made h fetch_end)) x)
-        | inr x ↦ inl (grows (kept_after v fetch_end (reply_to made h fetch_end)) x)
+        | inr kept ↦ elim kept [
+          | inl x ↦ inl (grows (kept_after v fetch_end (reply_to made h fetch_end)) x)
+          | inr x ↦ inl (renews (kept_after v fetch_end (reply_to made h fetch_end)) x)
+        ]
       ]
     ]
 
@@ -398,9 +538,9 @@ module _ (made : Made) (h : History) where
     one_passes = λ i j d order below passes. false_from_ne_true (is_of the_key (get_or v.delivering.kept j d)) (λ also.
         the_shelf.keys i j d order below (sym ((key_decides the_key (get_or v.delivering.kept i d).key).0 passes) ∙ (key_decides the_key (get_or v.delivering.kept j d).key).0 also))
 
-    gives : (kept : Kept) → kept_of the_key v.delivering.kept ≡ Some kept
+    gives : (kept : Kept) → kept_of the_key v.delivering.kept ≡ Some kept → kept.doubtful ≡ false
         → GivesObject made h request.asked.target kept.fetch kept.kind kept.body (filter (λ k. not (is_of the_key k)) v.delivering.kept ++ option_to_list (find (is_of the_key) v.delivering.kept))
-    gives kept is =
+    gives kept is sure =
         let sides = around (is_of the_key) v.delivering.kept kept one_passes is in
         record {
           before = sides.before;
@@ -418,7 +558,7 @@ module _ (made : Made) (h : History) where
     admit = (pass, Admit request moment)
 
     admit_leaves : LeavesObjects made h admit (reply_to made h admit) (kept_after v admit (reply_to made h admit))
-    admit_leaves = admit_cases v pass request moment (λ r. LeavesObjects made h admit r (kept_after v admit r)) (λ n. refl) (λ rule. refl) gives (λ is. refl)
+    admit_leaves = admit_cases v pass request moment (λ r. LeavesObjects made h admit r (kept_after v admit r)) (λ n. refl) (λ rule. refl) gives (λ kept tag is doubtful some. refl) (λ is. refl)
 
   module _ (pass id moment : ℕ) where
     abbrev advance : Entry
@@ -427,25 +567,37 @@ module _ (made : Made) (h : History) where
     abbrev AdvanceLeaves : Reply → Type 0
     AdvanceLeaves r = LeavesObjects made h advance r (kept_after v advance r)
 
-    takes : (trigger : Trigger) (kind : TriggerKind) → TakesBack kind
-        → AreOthers (λ k. Hits trigger.job.spec.selection k.key k.ccid) v.delivering.kept (unhit (start_by (position v) kind trigger) v.delivering.kept)
-    takes trigger Preposition back = absurd (no_preposition back)
-    takes trigger Invalidate back = ((λ k. hits trigger.job.spec.selection k.key k.ccid), (λ k. hits_decides trigger.job.spec.selection k.key k.ccid), refl)
-    takes trigger Purge back = ((λ k. hits trigger.job.spec.selection k.key k.ccid), (λ k. hits_decides trigger.job.spec.selection k.key k.ccid), refl)
+    abbrev IsHitBy : Trigger → Kept → Type 0
+    IsHitBy trigger k = Hits trigger.job.spec.selection k.key k.ccid
 
-    leaves_all : (trigger : Trigger) (kind : TriggerKind) → (TakesBack kind → ⊥) → unhit (start_by (position v) kind trigger) v.delivering.kept ≡ v.delivering.kept
+    abbrev hit_by : Trigger → Kept → Bool
+    hit_by trigger k = hits trigger.job.spec.selection k.key k.ccid
+
+    abbrev left_with : Trigger → TriggerKind → List Kept
+    left_with trigger kind = left_after (start_by (position v) kind trigger) v.delivering.kept
+
+    purges : (trigger : Trigger) (kind : TriggerKind) → kind ≡ Purge → AreOthers (IsHitBy trigger) v.delivering.kept (left_with trigger kind)
+    purges trigger kind is = subst (λ (k : TriggerKind). AreOthers (IsHitBy trigger) v.delivering.kept (left_with trigger k)) (sym is)
+        (hit_by trigger, (λ k. hits_decides trigger.job.spec.selection k.key k.ccid), filtered (hit_by trigger) v.delivering.kept)
+
+    doubts : (trigger : Trigger) (kind : TriggerKind) → kind ≡ Invalidate → AreDoubted (IsHitBy trigger) v.delivering.kept (left_with trigger kind)
+    doubts trigger kind is = subst (λ (k : TriggerKind). AreDoubted (IsHitBy trigger) v.delivering.kept (left_with trigger k)) (sym is)
+        (hit_by trigger, (λ k. hits_decides trigger.job.spec.selection k.key k.ccid), refl)
+
+    leaves_all : (trigger : Trigger) (kind : TriggerKind) → (TakesBack kind → ⊥) → left_with trigger kind ≡ v.delivering.kept
     leaves_all trigger Preposition free = refl
     leaves_all trigger Invalidate free = absurd (free (inl refl))
     leaves_all trigger Purge free = absurd (free (inr refl))
 
-    started : (trigger : Trigger) → trigger_of id v.controlling.triggers ≡ Some trigger → StartsTrigger made h id (unhit (start_of v id) v.delivering.kept)
+    started : (trigger : Trigger) → trigger_of id v.controlling.triggers ≡ Some trigger → StartsTrigger made h id (left_after (start_of v id) v.delivering.kept)
     started trigger is =
-        let this : unhit (start_of v id) v.delivering.kept ≡ unhit (start_by (position v) trigger.job.spec.kind trigger) v.delivering.kept =
-        ap (λ o. unhit (option_and_then (λ (t : Trigger). start_by (position v) t.job.spec.kind t) o) v.delivering.kept) is in
+        let this : left_after (start_of v id) v.delivering.kept ≡ left_with trigger trigger.job.spec.kind =
+        ap (λ o. left_after (option_and_then (λ (t : Trigger). start_by (position v) t.job.spec.kind t) o) v.delivering.kept) is in
         record {
           trigger = trigger;
           this = is;
-          takes = λ back. subst (AreOthers (λ k. Hits trigger.job.spec.selection k.key k.ccid) v.delivering.kept) (sym this) (takes trigger trigger.job.spec.kind back);
+          purges = λ purge. subst (AreOthers (IsHitBy trigger) v.delivering.kept) (sym this) (purges trigger trigger.job.spec.kind purge);
+          doubts = λ invalidate. subst (AreDoubted (IsHitBy trigger) v.delivering.kept) (sym this) (doubts trigger trigger.job.spec.kind invalidate);
           leaves = λ no. this ∙ leaves_all trigger trigger.job.spec.kind no;
         }
 
@@ -476,7 +628,7 @@ module _ (made : Made) (h : History) where
 
   pub kept_law : KeepsObjects made h
   kept_law = record {
-    fetched = (fetch_law made h).kept;
+    fetched = All-weaker (WasKept made h) (WasFetched made h) (λ k was. record { sourced = was.sourced; origin_is = was.origin_is; unhit = was.unhit }) v.delivering.kept (fetch_law made h).kept;
     apart = the_shelf.keys;
     within = the_shelf.fits;
     used = the_shelf.used;

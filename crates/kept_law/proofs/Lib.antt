@@ -1,5 +1,6 @@
+pub mod Entries
+pub mod KeptLaw
 pub mod Lists
 pub mod Rooms
-pub mod Entries
 pub mod Stock
-pub mod KeptLaw
+pub mod Thinned

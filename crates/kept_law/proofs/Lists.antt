@@ -73,3 +73,12 @@ module _ {A : Type 0} where
           others = cond-true (not (test x)) (x ∷ filter (λ y. not (test y)) xs) (filter (λ y. not (test y)) xs) (not_from_false (test x) fails) ∙ ap (λ k. x ∷ k) rest.others;
         }
   ]
+
+  -- what stands before and behind what was found
+  pub found_parts : (test : A → Bool) (xs : List A) (one : A) → find test xs ≡ Some one → (before : List A) × (behind : List A) × (xs ≡ before ++ one ∷ behind)
+  found_parts test [] one is = absurd (none-some one is)
+  found_parts test (x ∷ xs) one is = elim (cases_Bool (test x)) [
+    | inl passes ↦ ([], xs, ap (λ y. y ∷ xs) (same_Some x one (sym (cond-true (test x) (Some x) (find test xs) passes) ∙ is)))
+    | inr fails ↦
+        let rest = found_parts test xs one (sym (cond-false (test x) (Some x) (find test xs) fails) ∙ is) in (x ∷ rest.0, rest.1, ap (λ k. x ∷ k) rest.2)
+  ]

@@ -1,6 +1,6 @@
 -- No two fetches that are open or have brought what is kept have one number.
-use Rattle.std.proofs.Common.{◌≡◌, ℕ, ◌+◌, ◌≤◌, Bool, not, List, [], ◌∷◌, ◌++◌, All, AllPairs, sym, ◌∙◌, subst, Some, arith, get_or}
-use Rattle.std.specs.List.{filter, find}
+use Rattle.std.proofs.Common.{◌≡◌, ℕ, ◌+◌, ◌≤◌, Bool, not, List, [], ◌∷◌, ◌++◌, All, AllPairs, sym, ◌∙◌, subst, Some, Option, arith, get_or}
+use Rattle.std.specs.List.{filter, filter_map, find}
 use Rattle.std.proofs.lemmas.List.Elements.{All-filter, All-push, All-weaker}
 use Rattle.std.proofs.lemmas.List.Kept.{AllPairs-filter}
 use Rattle.std.proofs.lemmas.List.Quantifiers.{all_pairs_push}
@@ -10,6 +10,7 @@ use Rattle.history.specs.World.{Begun, Kept, is_open}
 use Rattle.history.specs.declared.begun.Fetching.{Fetching}
 use Rattle.kept_law.proofs.Entries.{Stock}
 use Rattle.kept_law.proofs.Lists.{all_behind, others_differ, pairs_behind}
+use Rattle.kept_law.proofs.Thinned.{LeavesAlike, all_thinned, pairs_thinned}
 
 abbrev pub Differ : Begun Fetching → Begun Fetching → Type 0
 Differ a b = a.number ≡ b.number → ⊥
@@ -33,6 +34,16 @@ pub record Apart (s : Stock) : Type 0 where
   pub shut : All (IsShut s.opened) s.kept
 
 module _ (kept : List Kept) (opened : List (Begun Fetching)) (n : ℕ) (a : Apart (record { kept = kept; opened = opened; fetched = n })) where
+  -- some objects leave, and what stays is alike
+  pub apart_thinned : (leave : Kept → Option Kept) (alike : LeavesAlike leave) (stay : Begun Fetching → Bool) → Apart (record { kept = filter_map leave kept; opened = filter stay opened; fetched = n })
+  apart_thinned leave alike stay = record {
+    open_below = All-filter stay (λ (f : Begun Fetching). f.number ≤ n) opened a.open_below;
+    open_apart = AllPairs-filter Differ stay opened a.open_apart;
+    kept_below = all_thinned leave alike (λ (k : Kept). k.fetch ≤ n) (λ (k : Kept). k.fetch ≤ n) (λ k k' like low. subst (λ f. f ≤ n) (sym like.fetch) low) kept a.kept_below;
+    kept_apart = pairs_thinned leave alike KeptDiffer KeptDiffer (λ x x' y y' one two other same. other (sym one.fetch ∙ same ∙ two.fetch)) kept a.kept_apart;
+    shut = all_thinned leave alike (IsShut opened) (IsShut (filter stay opened)) (λ k k' like all. subst (λ f. All (HasNot f) (filter stay opened)) (sym like.fetch) (All-filter stay (HasNot k.fetch) opened all)) kept a.shut;
+  }
+
   pub apart_fewer : (keep : Kept → Bool) (stay : Begun Fetching → Bool) → Apart (record { kept = filter keep kept; opened = filter stay opened; fetched = n })
   apart_fewer keep stay = record {
     open_below = All-filter stay (λ (f : Begun Fetching). f.number ≤ n) opened a.open_below;

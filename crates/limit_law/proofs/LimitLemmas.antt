@@ -13,8 +13,8 @@ use Rattle.history.specs.After.{after, after_reply, opened_by}
 use Rattle.history.specs.Event.{Entry, Event, History, Admit, FetchEnd, Finish, RefreshBegin, RefreshEnd, Command, Advance, Cancel, Delete, ReadStatus, Lists, Cut, LogFile, ListLogs, DropLog, Request}
 use Rattle.history.specs.History.{reply_to, world_of}
 use Rattle.history.specs.Kept.{kept_of}
-use Rattle.history.specs.Metadata.{forbidden, is_skipped, key_at}
-use Rattle.history.specs.Reply.{advance_reply, allowed_reply, begin_reply, cut_reply, judged_reply, next_due, opening, pending, reply_in, step_reply}
+use Rattle.history.specs.Metadata.{ccid_at, forbidden, is_skipped, key_at}
+use Rattle.history.specs.Reply.{advance_reply, allowed_reply, begin_reply, cut_reply, doubted_reply, judged_reply, next_due, opening, pending, reply_in, step_reply, tag_for}
 use Rattle.history.specs.Steps.{Step, Ended, Claimed, Waits, Starts, Refreshes, Fetches, Ends, index_of, invalid_of, step_of, trigger_of}
 use Rattle.history.specs.World.{Kept, Made, Recorded, Trigger, World}
 use Rattle.history.specs.declared.reply.Reply.{Reply}
@@ -49,6 +49,7 @@ opens_is : (r : Reply) → opened_by r ≡ one_if (opens r)
 opens_is (reply.Denied delivery rule) = refl
 opens_is (reply.Hit delivery fetch kind body) = refl
 opens_is (reply.Miss delivery fetch plan) = refl
+opens_is (reply.Check delivery fetch base kind tag body plan) = refl
 opens_is (reply.Due refresh) = refl
 opens_is (reply.Created id) = refl
 opens_is reply.Started = refl
@@ -149,9 +150,13 @@ module _ (w : World) where
   judged_untold asked (Some rule) = refl
   judged_untold asked None = by (kept_of (key_at (index_of w.delivering) asked.target) w.delivering.kept)
     where
+      doubted : (kept : Kept) (tag : Option (List ℕ)) → full_told (doubted_reply w asked kept tag) ≡ None
+      doubted kept None = refl
+      doubted kept (Some tag) = refl
+
       by : (kept : Option Kept) → full_told (allowed_reply w asked kept) ≡ None
       by None = refl
-      by (Some kept) = refl
+      by (Some kept) = either (λ r. full_told r ≡ None) kept.doubtful _ _ (doubted kept (tag_for (ccid_at (index_of w.delivering) asked.target) kept)) refl
 
   admit_tells : (pass : ℕ) (request : Request) (moment : ℕ) → Tells (Admit request moment) (reply_in w (pass, Admit request moment))
   unfolding reply_in

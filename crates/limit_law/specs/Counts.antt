@@ -16,6 +16,7 @@ abbrev pub opens : Reply → Bool
 opens (reply.Denied delivery rule) = true
 opens (reply.Hit delivery fetch kind body) = true
 opens (reply.Miss delivery fetch plan) = true
+opens (reply.Check delivery fetch base kind tag body plan) = true
 opens (reply.Due refresh) = true
 opens (reply.Created id) = true
 opens reply.Started = true

@@ -143,7 +143,8 @@ change w (pass, DropLog number) = dropped w pass number
 change w (pass, Admit request moment) = admit_cases w pass request moment (Changes w (pass, Admit request moment))
     (λ n. writes w (pass, Admit request moment) _ refl refl refl)
     (λ rule. writes w (pass, Admit request moment) _ refl refl refl)
-    (λ kept is. writes w (pass, Admit request moment) _ refl refl refl)
+    (λ kept is sure. writes w (pass, Admit request moment) _ refl refl refl)
+    (λ kept tag is doubtful some. writes w (pass, Admit request moment) _ refl refl refl)
     (λ is. writes w (pass, Admit request moment) _ refl refl refl)
 change w (pass, FetchEnd fetch outcome moment) = fetch_end_cases w pass (Changes w (pass, FetchEnd fetch outcome moment)) fetch outcome moment
     (writes w (pass, FetchEnd fetch outcome moment) _ refl refl refl)

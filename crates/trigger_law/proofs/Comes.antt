@@ -1,5 +1,5 @@
 -- What a trigger that is found after an entry was before it, and what the entry did to it.
-use Rattle.std.proofs.Common.{◌≡◌, ◌⊎◌, ℕ, ◌+◌, ◌==◌, nat_lt, Bool, true, false, cond, List, [], ◌∷◌, refl, sym, ap, ◌∙◌, subst, inl, inr, None, Some, Option}
+use Rattle.std.proofs.Common.{◌≡◌, ◌||◌, ◌⊎◌, ℕ, ◌+◌, ◌==◌, nat_lt, Bool, true, false, cond, List, [], ◌∷◌, refl, sym, ap, ◌∙◌, subst, inl, inr, None, Some, Option}
 use Rattle.std.specs.List.{list_any, slice_get}
 use Rattle.std.specs.Option.{option_map, option_or, is_some}
 use Rattle.std.proofs.lemmas.Bool.{both_ways, cases_Bool, cond_both, eq-eqb, eqb-true}
@@ -18,7 +18,7 @@ use Rattle.history.proofs.Cases.{advance_cases, cancel_cases, command_cases, eit
 use Rattle.history.specs.After.{commanded, ended_refresh, is_fetched, is_installed, triggers_after}
 use Rattle.history.specs.Event.{Entry, Admit, FetchEnd, Finish, RefreshBegin, RefreshEnd, Command, Advance, Cancel, Delete, ReadStatus, Lists, Cut, LogFile, ListLogs, DropLog}
 use Rattle.history.specs.Metadata.{is_skipped, plan_at}
-use Rattle.history.specs.Reply.{advance_reply, gained_of, reply_in, step_reply}
+use Rattle.history.specs.Reply.{advance_reply, confirmed_of, gained_of, reply_in, step_reply}
 use Rattle.history.specs.Steps.{Step, Ended, Claimed, Waits, Starts, Refreshes, Fetches, Ends, active_step, awaits_fetch, awaits_refresh, cancelled_from, changed, claimed_step, ended, ends_as, fetched, free_step, index_of, invalid_of, is_trigger, metadata_steps, own_step, refreshed, skipped, started, status_step, step_of, trigger_of, url_place, url_step, waiting}
 use Rattle.history.specs.World.{Awaited, OneFetch, OneRefresh, Trigger, World}
 use Rattle.history.specs.declared.reply.Reply.{Reply}
@@ -195,8 +195,8 @@ module _ (w : World) (id : ℕ) (u : Trigger) where
   pub comes : (e : Entry) → Found e (reply_in w e)
   comes (pass, Admit request moment) = Stays
   comes (pass, FetchEnd fetch outcome moment) = fetch_end_cases w pass (Found (pass, FetchEnd fetch outcome moment)) fetch outcome moment Stays
-      (λ begun there is. chosen id ts u (Comes w (pass, FetchEnd fetch outcome moment) (reply.Ended (is_some (gained_of w outcome begun))) id u) Stays (λ t. awaits_fetch fetch t.awaited) (fetched (is_fetched outcome)) (trigger_of id ts) refl
-      (sym (fetch_found id fetch (is_fetched outcome) ts) ∙ is) (λ t found awaits now. FetchEnds t fetch outcome moment (is_some (gained_of w outcome begun)) found refl refl awaits (sym now)))
+      (λ begun there is. chosen id ts u (Comes w (pass, FetchEnd fetch outcome moment) (reply.Ended (is_some (gained_of w outcome begun) || is_some (confirmed_of w outcome begun))) id u) Stays (λ t. awaits_fetch fetch t.awaited) (fetched (is_fetched outcome)) (trigger_of id ts) refl
+      (sym (fetch_found id fetch (is_fetched outcome) ts) ∙ is) (λ t found awaits now. FetchEnds t fetch outcome moment (is_some (gained_of w outcome begun) || is_some (confirmed_of w outcome begun)) found refl refl awaits (sym now)))
   comes (pass, Finish delivery status total entity moment) = Stays
   comes (pass, RefreshBegin moment) = Stays
   comes (pass, RefreshEnd refresh tree moment) = refresh_end_cases w pass (Found (pass, RefreshEnd refresh tree moment)) refresh

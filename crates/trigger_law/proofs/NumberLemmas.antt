@@ -70,7 +70,7 @@ others_left id other differs (x ∷ xs) = one_left id other x (left_without othe
 
 -- a number is given with each command that makes a trigger
 next_created : (w : World) (e : Entry) → IsNext w.counts.created (created_trigger (reply_in w e))
-next_created w (pass, Admit request moment) = admit_cases w pass request moment (λ r. IsNext w.counts.created (created_trigger r)) (λ n. inl refl) (λ rule. inl refl) (λ kept is. inl refl) (λ is. inl refl)
+next_created w (pass, Admit request moment) = admit_cases w pass request moment (λ r. IsNext w.counts.created (created_trigger r)) (λ n. inl refl) (λ rule. inl refl) (λ kept is sure. inl refl) (λ kept tag is doubtful some. inl refl) (λ is. inl refl)
 next_created w (pass, FetchEnd fetch outcome moment) = fetch_end_cases w pass (λ r. IsNext w.counts.created (created_trigger r)) fetch outcome moment (inl refl) (λ begun is. inl refl)
 next_created w (pass, Finish delivery status total entity moment) = finish_cases w pass (λ r. IsNext w.counts.created (created_trigger r)) delivery status total entity moment (inl refl) (inl refl)
 next_created w (pass, RefreshBegin moment) = begin_cases w pass (λ r. IsNext w.counts.created (created_trigger r)) moment (λ n. inl refl) (λ n. inl refl) (inl refl)

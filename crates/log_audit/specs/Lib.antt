@@ -1,0 +1,5 @@
+pub mod Forms
+pub mod Lines
+pub mod LogFile
+pub mod Value
+pub mod Written

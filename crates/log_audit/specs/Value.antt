@@ -1,0 +1,138 @@
+-- The forms of the values of a record (RFC 7937, section 3.4.1).
+use Rattle.std.specs.Prelude.{ℕ, ◌+◌, ◌-◌, ◌*◌, ◌^◌, Bool, true, false, not, List, [], ◌∷◌, bytes_eq, codes, drop, length, slice_range, take, None, is_some, ◌==◌, ◌&&◌, ◌||◌, nat_lt, nat_le, if◌then◌else◌, slice_index}
+use Rattle.std.specs.Char.{is_ascii_digit}
+use Rattle.std.specs.List.{fold, list_all}
+use Rattle.std.specs.Option.{option_map_or}
+use Rattle.std.specs.Result.{result_ok}
+use Rattle.httpdate.specs.Calendar.{days_in_month}
+use Rattle.listing.specs.Number.{number_of}
+use Rattle.listing.specs.Word.{parts_at}
+use Rattle.targets.specs.Target.{begins_with, target_of}
+use Rattle.cdni_log.specs.Columns.{undoubled}
+use Rattle.cdni_log.specs.Date.{CivilDate, clock_text, date_text, three_digits}
+use Rattle.cdni_log.specs.Field.{is_token_byte}
+use Rattle.cdni_log.specs.declared.field.Field.{Field}
+use Rattle.cdni_log.specs.declared.field.Field.TheVariants as field
+
+-- neither CR nor LF
+abbrev pub is_unbroken : List ℕ → Bool
+is_unbroken text = list_all (λ byte. not (byte == 10) && not (byte == 13)) text
+
+-- no tab, CR or LF
+abbrev pub is_plain : List ℕ → Bool
+is_plain text = list_all (λ byte. not (byte == 9) && not (byte == 10) && not (byte == 13)) text
+
+-- the number that digits write
+abbrev pub digits_of : List ℕ → ℕ
+digits_of text = fold (λ number byte. number * 10 + (byte - 48)) 0 text
+
+abbrev pub date_in : List ℕ → CivilDate
+date_in text = record {
+  year = digits_of (slice_range text 0 4);
+  month = digits_of (slice_range text 5 7);
+  day = digits_of (slice_range text 8 10);
+}
+
+-- the calendar has the date, in the years 1970 to 9999
+abbrev pub is_date_of_years : CivilDate → Bool
+is_date_of_years date = nat_le 1970 date.year && nat_le date.year 9999
+    && nat_le 1 date.month && nat_le date.month 12
+    && nat_le 1 date.day && nat_le date.day (days_in_month date.year date.month)
+
+-- `YYYY-MM-DD`
+unfoldable pub is_date : List ℕ → Bool
+is_date text = is_date_of_years (date_in text) && bytes_eq text (date_text (date_in text))
+
+-- the second of a day that `HH:MM:SS` writes
+abbrev pub second_in : List ℕ → ℕ
+second_in text = digits_of (slice_range text 0 2) * 3600 + digits_of (slice_range text 3 5) * 60
+    + digits_of (slice_range text 6 8)
+
+-- `HH:MM:SS.mmm`
+unfoldable pub is_time : List ℕ → Bool
+is_time text = nat_lt (second_in text) 86400 && bytes_eq (take 8 text) (clock_text (second_in text))
+    && bytes_eq (drop 8 text) (46 ∷ three_digits (digits_of (slice_range text 9 12)))
+
+-- a number below 2 ^ 64 without leading zeros
+abbrev pub is_number : List ℕ → Bool
+is_number text = is_some (number_of text)
+
+-- three decimal digits
+abbrev pub are_three_digits : List ℕ → Bool
+are_three_digits text = length text == 3 && list_all is_ascii_digit text
+
+-- a number, a point and three digits
+unfoldable pub is_seconds : List ℕ → Bool
+is_seconds text =
+    option_map_or (λ parts. is_number parts.0 && are_three_digits parts.1) (parts_at 46 text) false
+
+-- `as` and the number of an autonomous system, or `-`
+unfoldable pub is_group : List ℕ → Bool
+is_group text = bytes_eq text (codes "-") || (bytes_eq (take 2 text) (codes "as")
+    && option_map_or (λ number. nat_lt number (2 ^ 32)) (number_of (drop 2 text)) false)
+
+-- one byte of a token or more (RFC 9110, section 5.6.2)
+unfoldable pub is_method : List ℕ → Bool
+is_method text = nat_lt 0 (length text) && list_all is_token_byte text
+
+-- an absolute URL that reads as a target
+unfoldable pub is_url : List ℕ → Bool
+is_url text = (begins_with (codes "http://") text || begins_with (codes "https://") text)
+    && is_some (result_ok (target_of text None false))
+
+-- three digits from 100: the first is no 0
+unfoldable pub is_status : List ℕ → Bool
+is_status text = are_three_digits text && nat_le 49 (slice_index text 0)
+
+-- a text in quotes with each `"` in it doubled, or `-`
+unfoldable pub is_optional : List ℕ → Bool
+is_optional text = bytes_eq text (codes "-") || (nat_le 2 (length text)
+    && bytes_eq (take 1 text) (codes "\"") && bytes_eq (drop (length text - 1) text) (codes "\"")
+    && is_some (undoubled false (slice_range text 1 (length text - 1))))
+
+-- the form of a value of this field
+unfoldable pub has_form : Field → List ℕ → Bool
+has_form field.Date text = is_date text
+has_form field.Time text = is_time text
+has_form field.TimeTaken text = is_seconds text
+has_form field.GroupId text = is_group text
+has_form field.Method text = is_method text
+has_form field.CsUri text = is_url text
+has_form field.UUri text = is_url text
+has_form field.Protocol text = bytes_eq text (codes "HTTP/1.1")
+has_form field.Status text = is_status text
+has_form field.TotalBytes text = is_number text
+has_form field.EntityBytes text = is_number text
+has_form field.Ccid text = is_optional text
+has_form field.Cached text = bytes_eq text (codes "0") || bytes_eq text (codes "1")
+has_form (field.Header header) text = is_optional text
+
+-- a value of this field
+abbrev pub is_value : Field → List ℕ → Bool
+is_value column text = is_plain text && has_form column text
+
+-- one value for each field, in order
+abbrev pub are_values : List Field → List (List ℕ) → Bool
+are_values [] [] = true
+are_values [] (value ∷ values) = false
+are_values (column ∷ columns) [] = false
+are_values (column ∷ columns) (value ∷ values) = is_value column value && are_values columns values
+
+abbrev pub is_uri : Field → Bool
+is_uri field.CsUri = true
+is_uri field.UUri = true
+is_uri other = false
+
+-- the values of the two URLs, where they are there
+abbrev pub uris : List Field → List (List ℕ) → List (List ℕ)
+uris (column ∷ columns) (value ∷ values) = if is_uri column then value ∷ uris columns values else uris columns values
+uris columns values = []
+
+-- all are the first
+abbrev pub are_one : List (List ℕ) → Bool
+are_one [] = true
+are_one (value ∷ values) = list_all (λ other. bytes_eq other value) values
+
+-- a record of these fields: one value for each, and one URL in both of its columns
+unfoldable pub is_record : List Field → List (List ℕ) → Bool
+is_record columns values = are_values columns values && are_one (uris columns values)

@@ -1,11 +1,12 @@
 -- What the values of a record are, in the words of the standards (RFC 7937, section 3.4.1).
-use Rattle.std.specs.Prelude.{◌≡◌, ◌<◌, ◌≤◌, ◌⊎◌, ℕ, ◌^◌, false, IsTrue, List, ◌∷◌, ◌++◌, codes, decimal, length, slice_index, None}
+use Rattle.std.specs.Prelude.{◌≡◌, ◌<◌, ◌≤◌, ◌⊎◌, ℕ, ◌^◌, Bool, IsTrue, List, ◌∷◌, ◌++◌, codes, decimal, length, slice_index}
 use Rattle.std.specs.Char.{is_ascii_digit}
 use Rattle.std.specs.List.{list_all}
+use Rattle.std.specs.Str.{str_to_ascii_lowercase}
 use Rattle.std.specs.declared.option.Option.{Option}
 use Rattle.httpdate.specs.Calendar.{IsCivilDate}
-use Rattle.targets.specs.Grammar.{IsTarget}
-use Rattle.targets.specs.declared.target.Target.{Target}
+use Rattle.targets.specs.Grammar.{IsHost, IsPath, IsQuery}
+use Rattle.targets.specs.Target.{url_of}
 use Rattle.cdni_log.specs.Columns.{IsOptional}
 use Rattle.cdni_log.specs.Date.{CivilDate, clock_text, date_text, three_digits}
 use Rattle.cdni_log.specs.Field.{is_token_byte}
@@ -37,9 +38,12 @@ IsSecondsText text = (n : ℕ) × (decimals : List ℕ) × (text ≡ decimal n +
 abbrev pub IsGroupText : List ℕ → Type 0
 IsGroupText text = (text ≡ codes "-") ⊎ ((n : ℕ) × (text ≡ codes "as" ++ decimal n) × (n < 2 ^ 32))
 
--- an absolute URL
+-- an absolute URL as it is written (RFC 3986, section 5.3): the scheme `http` or `https`, a host in lower case, the
+-- port where it is not 80, a path and a query, where there is one
 abbrev pub IsUrlText : List ℕ → Type 0
-IsUrlText text = (target : Target) × IsTarget text None false target
+IsUrlText text = (secure : Bool) × (host : List ℕ) × (port : ℕ) × (path : List ℕ) × (query : Option (List ℕ))
+    × (text ≡ url_of secure host port path query) × IsHost host × (str_to_ascii_lowercase host ≡ host)
+    × (1 ≤ port) × (port ≤ 65535) × IsPath path × IsQuery query
 
 -- a text in quotes that is read back, or none
 abbrev pub IsOptionalText : List ℕ → Type 0

@@ -1,5 +1,7 @@
+pub mod Audit
 pub mod Forms
 pub mod Lines
 pub mod LogFile
+pub mod Print
 pub mod Value
 pub mod Written

@@ -2,6 +2,8 @@
 use Rattle.std.specs.Prelude.{◌≡◌, ℕ, ◌+◌, Bool, true, List, [], ◌∷◌, ◌++◌, codes, length, map, slice_index, Some, ◌==◌, ◌&&◌, ◌||◌, nat_lt, nat_le, if◌then◌else◌}
 use Rattle.std.specs.Char.{is_ascii_digit}
 use Rattle.std.specs.List.{AllByRecursion, flat_map, list_all, list_any}
+use Rattle.hex.specs.Hex.{encode_lower}
+use Rattle.sha2.specs.Sha256.{sha256}
 use Rattle.targets.specs.Endpoint.{host_length}
 use Rattle.cdni_log.specs.Field.{field_name}
 use Rattle.cdni_log.specs.FieldList.{fields_of}
@@ -32,14 +34,22 @@ record_line values = tabbed values ++ line_end
 abbrev pub hash_line : List ℕ → List ℕ
 hash_line hash = directive (codes "SHA256-hash") hash
 
--- the lines of a log file, in their order
-unfoldable pub print : LogFile → List ℕ
-print file = directive (codes "version") (codes "cdni/1.0")
+-- the lines of a log file before that of its hash, in their order
+unfoldable pub hashed_text : LogFile → List ℕ
+hashed_text file = directive (codes "version") (codes "cdni/1.0")
     ++ (directive (codes "UUID") (urn file.uuid)
     ++ (directive (codes "claimed-origin") file.origin
     ++ (directive (codes "record-type") (codes "cdni_http_request_v1")
     ++ (directive (codes "fields") (names_text file.fields)
-    ++ (flat_map record_line file.records ++ hash_line file.hash)))))
+    ++ flat_map record_line file.records))))
+
+-- the text of a log file
+abbrev pub print : LogFile → List ℕ
+print file = hashed_text file ++ hash_line file.hash
+
+-- the SHA-256 of the bytes before the hash's line, in lower-case digits
+abbrev pub true_hash : LogFile → List ℕ
+true_hash file = encode_lower (sha256 (hashed_text file))
 
 -- ---- forms
 

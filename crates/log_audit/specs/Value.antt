@@ -1,13 +1,14 @@
 -- The forms of the values of a record (RFC 7937, section 3.4.1).
-use Rattle.std.specs.Prelude.{ℕ, ◌+◌, ◌-◌, ◌*◌, ◌^◌, Bool, true, false, not, List, [], ◌∷◌, bytes_eq, codes, drop, length, slice_range, take, None, is_some, ◌==◌, ◌&&◌, ◌||◌, nat_lt, nat_le, if◌then◌else◌, slice_index}
-use Rattle.std.specs.Char.{is_ascii_digit}
-use Rattle.std.specs.List.{fold, list_all}
+use Rattle.std.specs.Prelude.{ℕ, ◌+◌, ◌-◌, ◌*◌, ◌^◌, Bool, true, false, not, List, [], ◌∷◌, bytes_eq, codes, drop, length, slice_range, take, None, Some, is_some, ◌==◌, ◌&&◌, ◌||◌, nat_lt, nat_le, if◌then◌else◌, slice_index}
+use Rattle.std.specs.Char.{is_ascii_digit, is_ascii_uppercase}
+use Rattle.std.specs.List.{fold, list_all, prefix_len}
 use Rattle.std.specs.Option.{option_map_or}
-use Rattle.std.specs.Result.{result_ok}
+use Rattle.std.specs.declared.option.Option.{Option}
 use Rattle.httpdate.specs.Calendar.{days_in_month}
 use Rattle.listing.specs.Number.{number_of}
 use Rattle.listing.specs.Word.{parts_at}
-use Rattle.targets.specs.Target.{begins_with, target_of}
+use Rattle.targets.specs.Endpoint.{host_length}
+use Rattle.targets.specs.Target.{is_taken}
 use Rattle.cdni_log.specs.Columns.{undoubled}
 use Rattle.cdni_log.specs.Date.{CivilDate, clock_text, date_text, three_digits}
 use Rattle.cdni_log.specs.Field.{is_token_byte}
@@ -75,10 +76,45 @@ is_group text = bytes_eq text (codes "-") || (bytes_eq (take 2 text) (codes "as"
 unfoldable pub is_method : List ℕ → Bool
 is_method text = nat_lt 0 (length text) && list_all is_token_byte text
 
--- an absolute URL that reads as a target
+-- what stands behind `http://` or `https://`
+abbrev pub behind_scheme : List ℕ → Option (List ℕ)
+behind_scheme text = if bytes_eq (take 7 text) (codes "http://") then Some (drop 7 text)
+    else (if bytes_eq (take 8 text) (codes "https://") then Some (drop 8 text) else None)
+
+-- a port that a URL writes: 80 stands for an absent one
+abbrev pub is_port : ℕ → Bool
+is_port n = nat_le 1 n && nat_le n 65535 && not (n == 80)
+
+-- nothing, or `:` and a port
+abbrev pub is_port_part : List ℕ → Bool
+is_port_part [] = true
+is_port_part (byte ∷ digits) = byte == 58 && option_map_or is_port (number_of digits) false
+
+-- a host of so many bytes in lower case, and a port where it is not 80
+abbrev pub is_authority_at : ℕ → List ℕ → Bool
+is_authority_at n text = nat_lt 0 n && list_all (λ byte. not (is_ascii_uppercase byte)) (take n text)
+    && is_port_part (drop n text)
+
+abbrev pub is_authority : List ℕ → Bool
+is_authority text = is_authority_at (host_length text) text
+
+-- each byte is one of a path or a query, and two hexadecimal digits follow each `%`
+abbrev pub are_taken : List ℕ → Bool
+are_taken [] = true
+are_taken (byte ∷ bytes) = is_taken byte bytes && are_taken bytes
+
+-- how many bytes stand before the path
+abbrev pub authority_length : List ℕ → ℕ
+authority_length text = prefix_len (λ byte. not (byte == 47)) text
+
+-- what follows the scheme in a URL: the path begins with `/`
+abbrev pub is_behind_scheme : List ℕ → Bool
+is_behind_scheme text = is_authority (take (authority_length text) text)
+    && nat_lt (authority_length text) (length text) && are_taken (drop (authority_length text) text)
+
+-- an absolute URL as it is written: scheme and host in lower case, no port of 80, and a path
 unfoldable pub is_url : List ℕ → Bool
-is_url text = (begins_with (codes "http://") text || begins_with (codes "https://") text)
-    && is_some (result_ok (target_of text None false))
+is_url text = option_map_or is_behind_scheme (behind_scheme text) false
 
 -- three digits from 100: the first is no 0
 unfoldable pub is_status : List ℕ → Bool

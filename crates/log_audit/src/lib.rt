@@ -1,8 +1,12 @@
-//! Log files (RFC 7937, section 3) checked by those who receive them: which texts are log files, and which line is the
-//! first that no log file has.
+//! Log files (RFC 7937, section 3) checked by those who receive them: which texts are log files, which line is the
+//! first that no log file has, whether the hash is that of the bytes, and what the records sum to.
 #![tactic(auto)]
 
+mod audit;
+mod audited;
 pub mod laws;
 mod place;
 
+pub use audit::{AuditFault, audit};
+pub use audited::Audited;
 pub use place::Place;

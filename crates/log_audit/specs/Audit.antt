@@ -1,0 +1,76 @@
+-- What is said of a text that is checked as a log file.
+use Rattle.std.specs.Prelude.{◌≡◌, ◌≢◌, ◌<◌, ◌≤◌, ℕ, List, codes, bytes_eq, decimal, length, map, slice_get, Ok, Err, Some}
+use Rattle.std.specs.List.{AllZip, count_by, sum}
+use Rattle.std.specs.Option.{option_map_or}
+use Rattle.std.specs.declared.result.Result.{Result}
+use Rattle.cdni_log.specs.Columns.{HasAt}
+use Rattle.cdni_log.specs.Field.{field_name}
+use Rattle.cdni_log.specs.Line.{tabbed}
+use Rattle.log_audit.specs.declared.audit.AuditFault.{AuditFault}
+use Rattle.log_audit.specs.declared.audit.AuditFault.TheVariants.{TooLong, BadLine, BadHash, Memory}
+use Rattle.log_audit.specs.declared.audited.Audited.{Audited}
+use Rattle.log_audit.specs.Lines.{bad_line}
+use Rattle.log_audit.specs.LogFile.{true_hash, LogFile, IsLogFile}
+
+-- at most 256 MiB
+abbrev pub IsWithin : List ℕ → Type 0
+IsWithin text = length text ≤ 268435456
+
+-- no column has this name
+abbrev pub IsAbsent : List (List ℕ) → List ℕ → Type 0
+IsAbsent names name = (k : ℕ) → slice_get names k ≡ Some name → ⊥
+
+-- each record has a number in its k-th value, and this is their sum
+abbrev pub IsSumAt : List (List (List ℕ)) → ℕ → ℕ → Type 0
+IsSumAt records k total = (numbers : List ℕ)
+    × AllZip (λ values number. HasAt values k (λ value. value ≡ decimal number)) records numbers
+    × (total ≡ sum numbers)
+
+-- the sum of the numbers below this name, one of each record; 0 where no column has the name
+pub record IsSum (names : List (List ℕ)) (records : List (List (List ℕ))) (name : List ℕ) (total : ℕ) : Type 0 where
+  pub below : (k : ℕ) → slice_get names k ≡ Some name → IsSumAt records k total
+  pub absent : IsAbsent names name → total ≡ 0
+
+-- how many records have this value at this place
+abbrev pub count_at : List (List (List ℕ)) → ℕ → List ℕ → ℕ
+count_at records k value =
+    count_by (λ values. option_map_or (bytes_eq value) (slice_get values k) false) records
+
+-- how many records have this value below this name; 0 where no column has the name
+pub record IsCount (names : List (List ℕ)) (records : List (List (List ℕ))) (name value : List ℕ) (n : ℕ) : Type 0 where
+  pub below : (k : ℕ) → slice_get names k ≡ Some name → n ≡ count_at records k value
+  pub absent : IsAbsent names name → n ≡ 0
+
+abbrev pub names_of : LogFile → List (List ℕ)
+names_of file = map field_name file.fields
+
+-- what is told of a log file: its fields, the line of each record, the sums of the bytes that were sent and how many
+-- records say that the content was kept
+pub record IsAudited (file : LogFile) (audited : Audited) : Type 0 where
+  pub fields : audited.fields ≡ file.fields
+  pub records : audited.records ≡ map tabbed file.records
+  pub total : IsSum (names_of file) file.records (codes "sc-total-bytes") audited.total
+  pub entity : IsSum (names_of file) file.records (codes "sc-entity-bytes") audited.entity
+  pub cached : IsCount (names_of file) file.records (codes "s-cached") (codes "1") audited.cached
+
+-- the answer for a text
+abbrev pub Answers : List ℕ → Result Audited AuditFault → Type 0
+Answers text (Ok audited) = IsWithin text × (file : LogFile) × IsLogFile text file
+    × (file.hash ≡ true_hash file) × IsAudited file audited
+Answers text (Err (TooLong len)) = (len ≡ length text) × (268435456 < length text)
+Answers text (Err (BadLine line)) = IsWithin text × (bad_line text ≡ Some line)
+Answers text (Err (BadHash written found)) = IsWithin text × (file : LogFile) × IsLogFile text file
+    × (written ≡ file.hash) × (found ≡ true_hash file) × (written ≢ found)
+Answers text (Err Memory) = IsWithin text
+
+-- the answer is this one, or memory was wanted
+abbrev pub IsOrMemory : Result Audited AuditFault → AuditFault → Type 0
+IsOrMemory (Ok audited) fault = ⊥
+IsOrMemory (Err Memory) fault = ⊤
+IsOrMemory (Err other) fault = other ≡ fault
+
+-- the text is accepted, or memory was wanted
+abbrev pub IsAccepted : Result Audited AuditFault → Type 0
+IsAccepted (Ok audited) = ⊤
+IsAccepted (Err Memory) = ⊤
+IsAccepted (Err other) = ⊥

@@ -1,0 +1,49 @@
+//! The check of a log file.
+
+ghost use Rattle.std.specs.Prelude.{◌≡◌, ◌<◌, ℕ, List, length, Err};
+ghost use Rattle.cdni_log.specs.File.{file_text};
+ghost use Rattle.cdni_log.specs.declared.row.FileHead.{FileHead};
+ghost use Rattle.cdni_log.specs.declared.row.Row.{Row};
+ghost use Rattle.log_audit.specs.Audit.{Answers, IsAccepted, IsOrMemory, IsWithin};
+ghost use Rattle.log_audit.specs.Lines.{IsBadLine};
+ghost use Rattle.log_audit.specs.LogFile.{true_hash, LogFile, IsLogFile};
+ghost use Rattle.log_audit.specs.Written.{HaveForms};
+ghost use Rattle.log_audit.specs.declared.audit.AuditFault.TheVariants.{TooLong, BadLine, BadHash};
+
+use crate::audited::Audited;
+use listing::Text;
+use std::alloc::{AllocError, Global};
+
+/// Why a text is not accepted as a log file. The first that applies, in this order.
+pub enum AuditFault {
+    /// The text has `len` bytes, which are more than 268,435,456.
+    TooLong { len: usize },
+    /// No log file has this line at its place; lines are counted from 1. Where the text ends too early it is the line
+    /// that is missing or cut.
+    BadLine { line: u64 },
+    /// The text is a log file, but another hash is written in it than the bytes before the hash's line have: the one
+    /// that is written, and the one that was found, in lower-case hexadecimal digits.
+    BadHash { written: Text, found: Text },
+    /// Want of memory.
+    Memory,
+}
+
+/// Checks one log file (RFC 7937, section 3): that it is whole and well formed, that its hash is that of its bytes
+/// (section 3.3), and what it sums to.
+///
+/// # Errors
+/// `TooLong` exactly above 268,435,456 bytes, and else `BadLine` exactly where the text is no log file, with the first
+/// line after which no text makes it one; `BadHash` exactly where it is one, but has another hash; want of memory.
+pub fn audit(alloc: Global, bytes: &[u8]) -> Result<Audited, AuditFault>
+    ensures answer { Answers bytes.now result }
+    ensures too_long { 268435456 < length bytes.now → result ≡ Err (TooLong (length bytes.now)) }
+    ensures bad_line { (n : ℕ) → IsWithin bytes.now → IsBadLine bytes.now n → IsOrMemory result (BadLine n) }
+    ensures bad_hash { (file : LogFile) → IsWithin bytes.now → IsLogFile bytes.now file → file.hash ≢ true_hash file
+        → IsOrMemory result (BadHash file.hash (true_hash file)) }
+    ensures accepted { (file : LogFile) → IsWithin bytes.now → IsLogFile bytes.now file → file.hash ≡ true_hash file
+        → IsAccepted result }
+    ensures written { (head : FileHead) (rows : List Row) → HaveForms head rows → bytes.now ≡ file_text head rows
+        → IsWithin bytes.now → IsAccepted result }
+{
+    checked(alloc, bytes)
+}

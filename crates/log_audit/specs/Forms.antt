@@ -20,7 +20,7 @@ IsDateText text = (date : CivilDate) × (text ≡ date_text date) × IsCivilDate
 -- a time of day with milliseconds
 abbrev pub IsTimeText : List ℕ → Type 0
 IsTimeText text = (second : ℕ) × (thousandth : ℕ) × (text ≡ clock_text second ++ 46 ∷ three_digits thousandth)
-    × (second < 86400)
+    × (second < 86400) × (thousandth < 1000)
 
 -- a number below 2 ^ 64
 abbrev pub IsNumberText : List ℕ → Type 0

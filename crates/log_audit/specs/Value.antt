@@ -1,5 +1,5 @@
 -- The forms of the values of a record (RFC 7937, section 3.4.1).
-use Rattle.std.specs.Prelude.{ℕ, ◌+◌, ◌-◌, ◌*◌, ◌^◌, Bool, true, false, not, List, [], ◌∷◌, bytes_eq, codes, drop, length, slice_range, take, None, Some, is_some, ◌==◌, ◌&&◌, ◌||◌, nat_lt, nat_le, if◌then◌else◌, slice_index}
+use Rattle.std.specs.Prelude.{ℕ, ◌+◌, ◌-◌, ◌*◌, ◌^◌, Bool, true, false, not, List, [], ◌∷◌, ◌++◌, bytes_eq, codes, drop, length, slice_range, take, None, Some, is_some, ◌==◌, ◌&&◌, ◌||◌, nat_lt, nat_le, if◌then◌else◌, slice_index}
 use Rattle.std.specs.Char.{is_ascii_digit, is_ascii_uppercase}
 use Rattle.std.specs.List.{fold, list_all, prefix_len}
 use Rattle.std.specs.Option.{option_map_or}
@@ -51,8 +51,8 @@ second_in text = digits_of (slice_range text 0 2) * 3600 + digits_of (slice_rang
 
 -- `HH:MM:SS.mmm`
 unfoldable pub is_time : List ℕ → Bool
-is_time text = nat_lt (second_in text) 86400 && bytes_eq (take 8 text) (clock_text (second_in text))
-    && bytes_eq (drop 8 text) (46 ∷ three_digits (digits_of (slice_range text 9 12)))
+is_time text = nat_lt (second_in text) 86400 && nat_lt (digits_of (slice_range text 9 12)) 1000
+    && bytes_eq text (clock_text (second_in text) ++ 46 ∷ three_digits (digits_of (slice_range text 9 12)))
 
 -- a number below 2 ^ 64 without leading zeros
 abbrev pub is_number : List ℕ → Bool

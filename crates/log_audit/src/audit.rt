@@ -11,10 +11,22 @@ ghost use Rattle.log_audit.specs.Written.{HaveForms};
 ghost use Rattle.log_audit.specs.declared.audit.AuditFault.TheVariants.{TooLong, BadLine, BadHash};
 
 use crate::audited::Audited;
-use listing::Text;
+use crate::head::read_head;
+use crate::records::read_body;
+use crate::totals::{ones_below, sum_below};
+use cdni_log::{Field, FieldList};
+use listing::{Text, TextList};
+use sha2::{Digest, Sha256};
 use std::alloc::{AllocError, Global};
 
+// the longest text, in bytes
+const LENGTH_MAX: usize = 268435456;
+
+// how many bytes the line of the hash has
+const HASH_LINE: usize = 80;
+
 /// Why a text is not accepted as a log file. The first that applies, in this order.
+#[derive(Drop)]
 pub enum AuditFault {
     /// The text has `len` bytes, which are more than 268,435,456.
     TooLong { len: usize },
@@ -26,6 +38,17 @@ pub enum AuditFault {
     BadHash { written: Text, found: Text },
     /// Want of memory.
     Memory,
+}
+
+impl From<AllocError> for AuditFault {
+    ghost use Rattle.std.specs.Prelude.{◌≡◌};
+    ghost use Rattle.log_audit.specs.declared.audit.AuditFault.TheVariants as audit_fault;
+
+    ghost from_gives = { λ _ fault. fault ≡ audit_fault.Memory };
+
+    fn from(_error: AllocError) -> AuditFault {
+        AuditFault::Memory
+    }
 }
 
 /// Checks one log file (RFC 7937, section 3): that it is whole and well formed, that its hash is that of its bytes
@@ -46,4 +69,48 @@ pub fn audit(alloc: Global, bytes: &[u8]) -> Result<Audited, AuditFault>
         → IsWithin bytes.now → IsAccepted result }
 {
     checked(alloc, bytes)
+}
+
+// the same without the laws
+fn checked(alloc: Global, bytes: &[u8]) -> Result<Audited, AuditFault>
+{
+    if bytes.len() > LENGTH_MAX {
+        return Err(AuditFault::TooLong { len: bytes.len() });
+    }
+    let head = read_head(alloc, bytes)?;
+    let body = read_body(alloc, head.fields.as_slice(), head.rest)?;
+    check_hash(alloc, &bytes[..bytes.len() - HASH_LINE], body.hash)?;
+    Ok(sums_of(head.fields, body.records))
+}
+
+// refuses a hash that is not that of these bytes
+fn check_hash(alloc: Global, bytes: &[u8], hash: &[u8]) -> Result<(), AuditFault>
+{
+    let mut digits = [0; 64];
+    match hex::encode_to_slice(&Sha256::digest(bytes), &mut digits) {
+        Ok(()) => {}
+        Err(_) => unreachable!(),
+    }
+    if hash == digits.as_slice() {
+        return Ok(());
+    }
+    Err(AuditFault::BadHash {
+        written: Text::of(alloc, hash)?,
+        found: Text::of(alloc, &digits)?,
+    })
+}
+
+// what is told of a file with these fields and records
+fn sums_of(fields: FieldList, records: TextList) -> Audited
+{
+    let total = sum_below(fields.as_slice(), &Field::TotalBytes, records.as_slice());
+    let entity = sum_below(fields.as_slice(), &Field::EntityBytes, records.as_slice());
+    let cached = ones_below(fields.as_slice(), &Field::Cached, records.as_slice());
+    Audited {
+        fields,
+        records,
+        total,
+        entity,
+        cached,
+    }
 }

@@ -3,6 +3,7 @@
 ghost use Rattle.std.specs.Prelude.{◌≡◌, IfOk};
 ghost use Rattle.log_audit.specs.Print.{printed_text};
 
+use crate::print::add_printed;
 use cdni_log::FieldList;
 use listing::{Text, TextList};
 use std::alloc::{AllocError, Global};
@@ -32,6 +33,8 @@ impl Audited {
     pub fn text(&self, alloc: Global) -> Result<Text, AllocError>
         ensures { IfOk result (λ text. text ≡ printed_text self.now) }
     {
-        printed(self, alloc)
+        let mut out = Vec::new(alloc);
+        add_printed(alloc, &mut out, self)?;
+        Ok(Text::from_vec(out))
     }
 }

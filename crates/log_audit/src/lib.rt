@@ -4,8 +4,18 @@
 
 mod audit;
 mod audited;
+mod head;
+mod host;
 pub mod laws;
+mod line;
+mod moment;
 mod place;
+mod print;
+mod record;
+mod records;
+mod totals;
+mod url;
+mod value;
 
 pub use audit::{AuditFault, audit};
 pub use audited::Audited;

@@ -2,6 +2,7 @@ pub mod FileLemmas
 pub mod FormLemmas
 pub mod LineLemmas
 pub mod PlaceLemmas
+pub mod UrlLemmas
 pub mod UuidLemmas
 pub mod WalkLemmas
 pub mod WholeLemmas

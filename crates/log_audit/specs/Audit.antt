@@ -6,8 +6,8 @@ use Rattle.std.specs.declared.result.Result.{Result}
 use Rattle.cdni_log.specs.Columns.{HasAt}
 use Rattle.cdni_log.specs.Field.{field_name}
 use Rattle.cdni_log.specs.Line.{tabbed}
-use Rattle.log_audit.specs.declared.audit.AuditFault.{AuditFault}
-use Rattle.log_audit.specs.declared.audit.AuditFault.TheVariants.{TooLong, BadLine, BadHash, Memory}
+use Rattle.log_audit.specs.declared.fault.AuditFault.{AuditFault}
+use Rattle.log_audit.specs.declared.fault.AuditFault.TheVariants.{TooLong, BadLine, BadHash, Memory}
 use Rattle.log_audit.specs.declared.audited.Audited.{Audited}
 use Rattle.log_audit.specs.Lines.{bad_line}
 use Rattle.log_audit.specs.LogFile.{true_hash, LogFile, IsLogFile}

@@ -1,10 +1,10 @@
 -- The first line that no log file has.
-use Rattle.std.specs.Prelude.{◌≡◌, ◌≤◌, ◌⊎◌, ℕ, ◌+◌, ◌-◌, Bool, true, false, List, [], ◌∷◌, ◌++◌, bytes_eq, codes, length, slice_range, take, None, Some, ◌==◌, ◌&&◌, if◌then◌else◌}
+use Rattle.std.specs.Prelude.{◌≡◌, ◌<◌, ◌≤◌, ◌⊎◌, ℕ, ◌+◌, ◌-◌, Bool, true, false, List, [], ◌∷◌, ◌++◌, bytes_eq, codes, length, slice_range, take, None, Some, ◌==◌, ◌&&◌, if◌then◌else◌}
 use Rattle.std.specs.List.{concat, count_by, slice_split}
 use Rattle.std.specs.Option.{option_map_or}
 use Rattle.std.specs.declared.option.Option.{Option}
-use Rattle.cdni_log.specs.FieldList.{fields_of}
-use Rattle.cdni_log.specs.Line.{directive}
+use Rattle.cdni_log.specs.FieldList.{fields_of, names_in}
+use Rattle.cdni_log.specs.Line.{directive, line_end}
 use Rattle.cdni_log.specs.declared.field.Field.{Field}
 use Rattle.log_audit.specs.declared.place.Place.{Place}
 use Rattle.log_audit.specs.declared.place.Place.TheVariants as place
@@ -77,6 +77,26 @@ bad_from number at (line ∷ lines) =
 -- the same of a text, whose lines are counted from 1
 abbrev pub bad_line : List ℕ → Option ℕ
 bad_line text = bad_from 1 place.Version (lines_of text)
+
+-- ---- parts of lines
+
+-- the line is cut off from the text, and this is left
+abbrev pub IsCutOff : List ℕ → List ℕ → List ℕ → Type 0
+IsCutOff text line rest = (lines_of text ≡ line ∷ lines_of rest) × (length rest < length text)
+
+-- what stands between this front and the end of the line, where the line is of this form
+abbrev pub IsFramed : List ℕ → List ℕ → Option (List ℕ) → Type 0
+IsFramed front line None = (middle : List ℕ) → line ≡ front ++ (middle ++ line_end) → ⊥
+IsFramed front line (Some middle) = line ≡ front ++ (middle ++ line_end)
+
+-- the values between which tabs stand, where there is a text
+abbrev pub parts_in : Option (List ℕ) → List (List ℕ)
+parts_in text = names_in 9 text
+
+-- the values in the line, joined by tabs, where it is the line of a record
+abbrev pub IsRecordIn : List Field → List ℕ → Option (List ℕ) → Type 0
+IsRecordIn fields line None = is_record_line fields line ≡ false
+IsRecordIn fields line (Some values) = (is_record_line fields line ≡ true) × (line ≡ values ++ line_end)
 
 -- ---- what it is to be
 

@@ -1,6 +1,6 @@
 //! The lines of a log file before its records (RFC 7937, section 3.3).
 
-use crate::audit::AuditFault;
+use crate::fault::AuditFault;
 use crate::host::is_host;
 use crate::line::{TAB, first_line, framed};
 use cdni_log::{Field, FieldList, FieldNameFault, read_fields};

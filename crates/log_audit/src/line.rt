@@ -67,13 +67,3 @@ pub(crate) fn values_from(place: usize, values: Option<&[u8]>) -> Option<&[u8]>
     let (_, others) = first_value(bytes);
     values_from(place - 1, others)
 }
-
-// the value at this place
-pub(crate) fn value_at(place: usize, values: &[u8]) -> Option<&[u8]>
-    ensures { option_map (λ value. value.now) result ≡ slice_get (parts_in (Some values.now)) place }
-{
-    match values_from(place, Some(values)) {
-        Some(values) => Some(first_value(values).0),
-        None => None,
-    }
-}

@@ -2,7 +2,6 @@
 
 use crate::audited::Audited;
 use crate::line::{TAB, first_value, values_from};
-use crate::totals::place_of;
 use cdni_log::{Field, default_fields};
 use itoa::Buffer;
 use listing::Text;
@@ -40,6 +39,17 @@ fn add_header_places(places: &mut Vec<usize>, fields: &[Field]) -> Result<(), Al
         }
     }
     Ok(())
+}
+
+// the place of the first field of this name
+fn place_of(field: &Field, fields: &[Field]) -> Option<usize>
+{
+    'fields: for (at, other) in fields.iter().enumerate() {
+        if field == other {
+            return Some(at);
+        }
+    }
+    None
 }
 
 fn add_records(out: &mut Vec<u8>, places: &[usize], records: &[Text]) -> Result<(), AllocError>

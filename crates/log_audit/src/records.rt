@@ -1,6 +1,6 @@
 //! The records of a log file, and the line of its hash.
 
-use crate::audit::AuditFault;
+use crate::fault::AuditFault;
 use crate::head::is_lower_digit;
 use crate::line::{first_line, framed};
 use crate::record::record_in;

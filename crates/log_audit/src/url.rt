@@ -33,7 +33,10 @@ fn begins_with(text: &[u8], word: &[u8]) -> bool
 fn is_behind_scheme(text: &[u8]) -> bool
 {
     let length = authority_length(text);
-    is_authority(&text[..length]) && length < text.len() && are_taken(&text[length..])
+    is_authority(&text[..length])
+        && length < text.len()
+        && text[length] == b'/'
+        && are_taken(&text[length..])
 }
 
 // how many bytes stand before the path
@@ -51,7 +54,7 @@ fn is_authority(text: &[u8]) -> bool
 
 fn is_lower(text: &[u8]) -> bool
 {
-    text.iter().all(|byte| !byte.is_ascii_uppercase())
+    text.iter().all(|byte| byte.to_ascii_lowercase() == *byte)
 }
 
 // nothing, or `:` and a port

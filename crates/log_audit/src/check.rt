@@ -8,48 +8,23 @@ ghost use Rattle.log_audit.specs.Audit.{Answers, IsAccepted, IsOrMemory, IsWithi
 ghost use Rattle.log_audit.specs.Lines.{IsBadLine};
 ghost use Rattle.log_audit.specs.LogFile.{true_hash, LogFile, IsLogFile};
 ghost use Rattle.log_audit.specs.Written.{HaveForms};
-ghost use Rattle.log_audit.specs.declared.audit.AuditFault.TheVariants.{TooLong, BadLine, BadHash};
+ghost use Rattle.log_audit.specs.declared.fault.AuditFault.TheVariants.{TooLong, BadLine, BadHash};
 
 use crate::audited::Audited;
+use crate::fault::AuditFault;
 use crate::head::read_head;
 use crate::records::read_body;
-use crate::totals::{ones_below, sum_below};
-use cdni_log::{Field, FieldList};
+use crate::totals::sums_of;
+use cdni_log::FieldList;
 use listing::{Text, TextList};
 use sha2::{Digest, Sha256};
-use std::alloc::{AllocError, Global};
+use std::alloc::Global;
 
 // the longest text, in bytes
 const LENGTH_MAX: usize = 268435456;
 
 // how many bytes the line of the hash has
 const HASH_LINE: usize = 80;
-
-/// Why a text is not accepted as a log file. The first that applies, in this order.
-#[derive(Drop)]
-pub enum AuditFault {
-    /// The text has `len` bytes, which are more than 268,435,456.
-    TooLong { len: usize },
-    /// No log file has this line at its place; lines are counted from 1. Where the text ends too early it is the line
-    /// that is missing or cut.
-    BadLine { line: u64 },
-    /// The text is a log file, but another hash is written in it than the bytes before the hash's line have: the one
-    /// that is written, and the one that was found, in lower-case hexadecimal digits.
-    BadHash { written: Text, found: Text },
-    /// Want of memory.
-    Memory,
-}
-
-impl From<AllocError> for AuditFault {
-    ghost use Rattle.std.specs.Prelude.{◌≡◌};
-    ghost use Rattle.log_audit.specs.declared.audit.AuditFault.TheVariants as audit_fault;
-
-    ghost from_gives = { λ _ fault. fault ≡ audit_fault.Memory };
-
-    fn from(_error: AllocError) -> AuditFault {
-        AuditFault::Memory
-    }
-}
 
 /// Checks one log file (RFC 7937, section 3): that it is whole and well formed, that its hash is that of its bytes
 /// (section 3.3), and what it sums to.
@@ -80,7 +55,7 @@ fn checked(alloc: Global, bytes: &[u8]) -> Result<Audited, AuditFault>
     let head = read_head(alloc, bytes)?;
     let body = read_body(alloc, head.fields.as_slice(), head.rest)?;
     check_hash(alloc, &bytes[..bytes.len() - HASH_LINE], body.hash)?;
-    Ok(sums_of(head.fields, body.records))
+    Ok(told_of(head.fields, body.records))
 }
 
 // refuses a hash that is not that of these bytes
@@ -101,16 +76,14 @@ fn check_hash(alloc: Global, bytes: &[u8], hash: &[u8]) -> Result<(), AuditFault
 }
 
 // what is told of a file with these fields and records
-fn sums_of(fields: FieldList, records: TextList) -> Audited
+fn told_of(fields: FieldList, records: TextList) -> Audited
 {
-    let total = sum_below(fields.as_slice(), &Field::TotalBytes, records.as_slice());
-    let entity = sum_below(fields.as_slice(), &Field::EntityBytes, records.as_slice());
-    let cached = ones_below(fields.as_slice(), &Field::Cached, records.as_slice());
+    let sums = sums_of(fields.as_slice(), records.as_slice());
     Audited {
         fields,
         records,
-        total,
-        entity,
-        cached,
+        total: sums.total,
+        entity: sums.entity,
+        cached: sums.cached,
     }
 }

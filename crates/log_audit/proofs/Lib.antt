@@ -1,9 +1,12 @@
 pub mod FileLemmas
 pub mod FormLemmas
+pub mod FrameLemmas
 pub mod LineLemmas
+pub mod MomentLemmas
 pub mod PlaceLemmas
 pub mod UrlLemmas
 pub mod UuidLemmas
+pub mod ValueLemmas
 pub mod WalkLemmas
 pub mod WholeLemmas
 pub mod WrittenLemmas

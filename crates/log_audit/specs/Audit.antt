@@ -1,5 +1,5 @@
 -- What is said of a text that is checked as a log file.
-use Rattle.std.specs.Prelude.{◌≡◌, ◌≢◌, ◌<◌, ◌≤◌, ℕ, List, codes, bytes_eq, decimal, length, map, slice_get, Ok, Err, Some}
+use Rattle.std.specs.Prelude.{◌≡◌, ◌≢◌, ◌<◌, ◌≤◌, ℕ, List, codes, bytes_eq, decimal, length, map, slice_get, Ok, Err, None, Some, true, false, [], ◌∷◌, ⊤}
 use Rattle.std.specs.List.{AllZip, count_by, sum}
 use Rattle.std.specs.Option.{option_map_or}
 use Rattle.std.specs.declared.result.Result.{Result}
@@ -9,8 +9,11 @@ use Rattle.cdni_log.specs.Line.{tabbed}
 use Rattle.log_audit.specs.declared.fault.AuditFault.{AuditFault}
 use Rattle.log_audit.specs.declared.fault.AuditFault.TheVariants.{TooLong, BadLine, BadHash, Memory}
 use Rattle.log_audit.specs.declared.audited.Audited.{Audited}
-use Rattle.log_audit.specs.Lines.{bad_line}
-use Rattle.log_audit.specs.LogFile.{true_hash, LogFile, IsLogFile}
+use Rattle.cdni_log.specs.declared.field.Field.{Field}
+use Rattle.std.specs.declared.option.Option.{Option}
+use Rattle.log_audit.specs.declared.place.Place.TheVariants as place
+use Rattle.log_audit.specs.Lines.{bad_from, bad_line, is_directive, is_record_line, lines_of}
+use Rattle.log_audit.specs.LogFile.{hash_line, is_hash, true_hash, LogFile, IsLogFile}
 
 -- at most 256 MiB
 abbrev pub IsWithin : List ℕ → Type 0
@@ -74,3 +77,25 @@ abbrev pub IsAccepted : Result Audited AuditFault → Type 0
 IsAccepted (Ok audited) = ⊤
 IsAccepted (Err Memory) = ⊤
 IsAccepted (Err other) = ⊥
+
+-- ---- parts of the check
+
+-- a bad line is the fault, and it is this one; or memory was wanted
+abbrev pub IsBad : Option ℕ → AuditFault → Type 0
+IsBad bad (BadLine n) = bad ≡ Some n
+IsBad bad Memory = ⊤
+IsBad bad other = ⊥
+
+-- the hash that stands in the line, where it is the line of one
+abbrev pub IsHashIn : List ℕ → Option (List ℕ) → Type 0
+IsHashIn line None = is_directive (codes "SHA256-hash") is_hash line ≡ false
+IsHashIn line (Some hash) = (line ≡ hash_line hash) × (is_hash hash ≡ true)
+
+-- the line that is no record, or the one behind it, is bad
+abbrev pub IsBadLast : ℕ → List ℕ → List ℕ → AuditFault → Type 0
+IsBadLast number line rest fault = (fields : List Field) → is_record_line fields line ≡ false
+    → IsBad (bad_from number (place.Records fields) (line ∷ lines_of rest)) fault
+
+-- the line is that of this hash, and nothing follows
+abbrev pub IsLast : List ℕ → List ℕ → List ℕ → Type 0
+IsLast line rest hash = (line ≡ hash_line hash) × (is_hash hash ≡ true) × (rest ≡ [])

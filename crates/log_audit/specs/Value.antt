@@ -120,11 +120,20 @@ is_url text = option_map_or is_behind_scheme (behind_scheme text) false
 unfoldable pub is_status : List ℕ → Bool
 is_status text = are_three_digits text && nat_le 49 (slice_index text 0)
 
--- a text in quotes with each `"` in it doubled, or `-`
-unfoldable pub is_optional : List ℕ → Bool
-is_optional text = bytes_eq text (codes "-") || (nat_le 2 (length text)
+-- whether a `"` waits for its second after this byte, where the byte may stand there
+abbrev pub waits_after : Bool → ℕ → Option Bool
+waits_after true byte = if byte == 34 then Some false else None
+waits_after false byte = Some (byte == 34)
+
+-- a text in quotes with each `"` in it doubled
+abbrev pub is_quoted : List ℕ → Bool
+is_quoted text = nat_le 2 (length text)
     && bytes_eq (take 1 text) (codes "\"") && bytes_eq (drop (length text - 1) text) (codes "\"")
-    && is_some (undoubled false (slice_range text 1 (length text - 1))))
+    && is_some (undoubled false (slice_range text 1 (length text - 1)))
+
+-- the same, or `-`
+unfoldable pub is_optional : List ℕ → Bool
+is_optional text = bytes_eq text (codes "-") || is_quoted text
 
 -- the form of a value of this field
 unfoldable pub has_form : Field → List ℕ → Bool

@@ -1,6 +1,6 @@
 //! The check of a log file.
 
-ghost use Rattle.std.specs.Prelude.{◌≡◌, ◌<◌, ℕ, List, length, Err};
+ghost use Rattle.std.specs.Prelude.{◌≡◌, ◌≢◌, ◌<◌, ℕ, List, length, Err};
 ghost use Rattle.cdni_log.specs.File.{file_text};
 ghost use Rattle.cdni_log.specs.declared.row.FileHead.{FileHead};
 ghost use Rattle.cdni_log.specs.declared.row.Row.{Row};

@@ -1,8 +1,8 @@
 //! Records of a log file (RFC 7937, section 3.4.1).
 
-ghost use Rattle.std.specs.Prelude.{◌≡◌, bytes_eq, option_map};
-ghost use Rattle.log_audit.specs.Lines.{parts_in};
-ghost use Rattle.log_audit.specs.Value.{is_record, is_uri};
+ghost use Rattle.std.specs.Prelude.{◌≡◌, None, Some, option_map};
+ghost use Rattle.log_audit.specs.Lines.{parts_in, IsRecordIn};
+ghost use Rattle.log_audit.specs.Value.{agrees, goes_on, is_uri, url_after};
 
 use crate::line::{first_value, framed};
 use crate::value::is_value;
@@ -12,17 +12,21 @@ use cdni_log::Field;
 pub(crate) fn record_in<'a>(fields: &[Field], line: &'a [u8]) -> Option<&'a [u8]>
     ensures { IsRecordIn fields.now line.now (option_map (λ values. values.now) result) }
 {
-    match framed(b"", line) {
-        Some(values) if is_record(fields, values) => Some(values),
-        _ => None,
+    let Some(values) = framed(b"", b"\r\n", line) else {
+        return None;
+    };
+    if is_record(fields, values) {
+        Some(values)
+    } else {
+        None
     }
 }
 
 // whether there is one value for each field, and both URLs are one
-fn is_record(fields: &[Field], values: &[u8]) -> bool
-    ensures { result ≡ is_record fields.now (parts_in (Some values.now)) }
+fn is_record(fields: &[Field], joined: &[u8]) -> bool
+    ensures { result ≡ goes_on fields.now None (parts_in (Some joined.now)) }
 {
-    let mut left = Some(values);
+    let mut left = Some(joined);
     let mut url = None;
     'fields: for field in fields {
         let Some(values) = left else {

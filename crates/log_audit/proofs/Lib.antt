@@ -1,6 +1,7 @@
 pub mod FileLemmas
 pub mod FormLemmas
 pub mod FrameLemmas
+pub mod HeadLemmas
 pub mod LineLemmas
 pub mod MomentLemmas
 pub mod PlaceLemmas

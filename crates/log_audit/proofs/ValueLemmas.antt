@@ -1,12 +1,12 @@
 -- Texts in quotes, and records, value by value.
-use Rattle.std.proofs.Common.{◌≡◌, ℕ, ◌+◌, ◌<◌, ◌≤◌, ◌==◌, ◌&&◌, Bool, true, false, cond, List, [], ◌∷◌, ◌++◌, Option, None, Some, refl, ap, sym, ◌∙◌, is_some, is_none, not, length, drop, get_or, add-one, drop-cons, arith}
-use Rattle.std.proofs.lemmas.Bool.{and_parts, and_from}
+use Rattle.std.proofs.Common.{◌≡◌, ℕ, ◌+◌, ◌<◌, ◌≤◌, ◌==◌, ◌&&◌, Bool, true, false, cond, List, [], ◌∷◌, ◌++◌, Option, None, Some, refl, ap, sym, ◌∙◌, is_some, not, length, drop, get_or, add-one, drop-cons, arith}
+use Rattle.std.proofs.lemmas.Bool.{and_parts, and_from, false≢true}
 use Rattle.std.proofs.lemmas.List.{drop_all}
 use Rattle.std.proofs.lemmas.List.Splits.{length-slice_split}
 use Rattle.std.proofs.lemmas.Slice.Eq.{bytes_eq-Decides}
 use Rattle.std.specs.Prelude.{bytes_eq}
 use Rattle.std.specs.List.{list_all}
-use Rattle.std.specs.Option.{option_map, option_map_or}
+use Rattle.std.specs.Option.{is_none, option_map, option_map_or}
 use Rattle.cdni_log.specs.Columns.{undoubled}
 use Rattle.cdni_log.specs.declared.field.Field.{Field}
 use Rattle.log_audit.specs.Lines.{parts_in}
@@ -87,3 +87,9 @@ left_none url (Some text) = parts_by url (parts_in (Some text)) (omega (arith, l
 
 pub goes_done : (fields : List Field) (i : ℕ) (url left : Option (List ℕ)) (whole : Bool) → length fields ≤ i → goes_on (drop i fields) url (parts_in left) ≡ whole → is_none left ≡ whole
 goes_done fields i url left whole done is = sym (left_none url left) ∙ (ap (λ rest. goes_on rest url (parts_in left)) (sym (drop_all i fields done)) ∙ is)
+
+pub none_not : {A : Type 0} (f : A → List ℕ) (is : Bool) (left : Option A) → not is ≡ is_some left → is ≡ is_none (option_map f left)
+none_not f true None e = refl
+none_not f false (Some a) e = refl
+none_not f true (Some a) e = absurd (false≢true e)
+none_not f false None e = absurd (false≢true (sym e))

@@ -1,8 +1,9 @@
 //! The lines of a log file before its records (RFC 7937, section 3.3).
 
-ghost use Rattle.std.specs.Prelude.{◌≡◌, ◌==◌, ◌&&◌, Some, IfErr, IfOk, IsTrue, MatchOption, [], bytes_eq, codes, map, not, option_map, if◌then◌else◌, true, None};
+ghost use Rattle.std.specs.Prelude.{◌≡◌, ◌==◌, ◌&&◌, ◌++◌, Some, OnOk, IfErr, IfOk, IsTrue, MatchOption, [], bytes_eq, codes, map, not, option_map, if◌then◌else◌, true, None};
 ghost use Rattle.std.specs.List.{list_all, list_any};
 ghost use Rattle.cdni_log.specs.Field.{field_name};
+ghost use Rattle.cdni_log.specs.Line.{tabbed_behind};
 ghost use Rattle.log_audit.specs.Audit.{IsBad};
 ghost use Rattle.log_audit.specs.declared.place.Place.TheVariants as place;
 ghost use Rattle.log_audit.specs.LogFile.{are_uuid_bytes, is_lower_digit, is_origin, is_uuid, is_uuid_byte, names_text};
@@ -217,14 +218,31 @@ fn written_names(alloc: Global, fields: &[Field]) -> Result<Vec<u8>, AllocError>
     ensures { IfOk result (λ names. names.items ≡ names_text fields.now) }
 {
     let mut out = Vec::new(alloc);
-    'fields: for (at, field) in fields.iter().enumerate() {
-        if at > 0 {
-            out.extend_from_slice(&[TAB])?;
-        }
-        let name = field.name(alloc)?;
-        out.extend_from_slice(name.bytes())?;
-    }
+    let Some((first, others)) = fields.split_first() else {
+        return Ok(out);
+    };
+    add_name(alloc, &mut out, first)?;
+    add_names_behind(alloc, &mut out, others)?;
     Ok(out)
+}
+
+// adds the names of the fields, each behind a tab
+fn add_names_behind(alloc: Global, out: &mut Vec<u8>, fields: &[Field]) -> Result<(), AllocError>
+    ensures { OnOk result (out.new.items ≡ out.old.items ++ tabbed_behind (map field_name fields.now)) }
+{
+    'fields: for field in fields {
+        out.extend_from_slice(&[TAB])?;
+        add_name(alloc, out, field)?;
+    }
+    Ok(())
+}
+
+// adds the name of the field
+fn add_name(alloc: Global, out: &mut Vec<u8>, field: &Field) -> Result<(), AllocError>
+    ensures { OnOk result (out.new.items ≡ out.old.items ++ field_name field.now) }
+{
+    let name = field.name(alloc)?;
+    out.extend_from_slice(name.bytes())
 }
 
 // whether there is neither CR nor LF

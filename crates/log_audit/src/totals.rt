@@ -1,5 +1,7 @@
 //! Sums over the records of a log file.
 
+ghost use Rattle.std.specs.Prelude.{◌≤◌};
+
 use crate::line::first_value;
 use cdni_log::{Field, FieldList};
 use listing::{Text, read_decimal};
@@ -87,6 +89,7 @@ fn number_in(text: &[u8]) -> u64
 
 // 1 where that is what is written
 fn ones_in(text: &[u8]) -> u64
+    ensures { result ≤ 1 }
 {
     if text == b"1".as_slice() { 1 } else { 0 }
 }

@@ -1,7 +1,7 @@
 -- What stands between two pieces of a line, and lines cut off from a text.
 use Rattle.std.proofs.Common.{◌≡◌, ℕ, zero, suc, ◌+◌, ◌-◌, ◌<◌, ◌≤◌, ◌==◌, ◌&&◌, ⊎_elim, Bool, true, false, cond, not, List, [], ◌∷◌, ◌++◌, Option, None, Some, length, take, drop, refl, ap, sym, subst, ◌∙◌, codes, append_assoc, arith, take-append-drop, take_at, ltb}
 use Rattle.std.proofs.lemmas.Bool.{and_parts, and_from, cases_Bool, cond-true, cond-false, eqb-true, ltb-true, ltb-false, not_from_true, not_from_false, false≢true}
-use Rattle.std.proofs.lemmas.List.{drop-drop, drop_at, length-append, length-drop, length-take, drop_all}
+use Rattle.std.proofs.lemmas.List.{drop-drop, drop_at, length-append, length-drop, length-take, drop_all, take_all}
 use Rattle.std.proofs.lemmas.List.Splits.{join_with_byte-slice_split}
 use Rattle.std.proofs.lemmas.Option.{none-some, same_Some}
 use Rattle.std.proofs.lemmas.Slice.Eq.{bytes_eq-Decides}
@@ -148,4 +148,21 @@ no_line_cut_off (byte ∷ bytes) some e =
     let at = first_feed text in
     ⊎_elim (λ found. absurd (some_none (sym (e ∙ ap (parts_at_place text) (cond-true (ltb at (length text)) (Some at) None found)))))
     (λ none. (whole_line text (ltb-false at (length text) none), some))
+    (cases_Bool (ltb at (length text)))
+
+pub whole_cut_off : (text : List ℕ) → 0 < length text → None ≡ parts_at 10 text → IsCutOff text (take (length text) text) (drop (length text) text)
+whole_cut_off text some e =
+    subst (λ (l : List ℕ). IsCutOff text l (drop (length text) text)) (sym (take_all (length text) text (omega arith)))
+    (subst (λ (r : List ℕ). IsCutOff text text r) (sym (drop_all (length text) text (omega arith))) (no_line_cut_off text some e))
+
+pub before_within : (text before behind : List ℕ) → Some (before, behind) ≡ parts_at 10 text → length before + 1 ≤ length text
+unfolding parts_at
+before_within text before behind e =
+    let at = first_feed text in
+    ⊎_elim (λ found.
+    let within = ltb-true at (length text) found in
+    let cut : parts_at 10 text ≡ Some (take at text, drop (at + 1) text) = ap (parts_at_place text) (cond-true (ltb at (length text)) (Some at) None found) in
+    let first : before ≡ take at text = ap (λ (p : List ℕ × List ℕ). p.0) (same_Some (before, behind) (take at text, drop (at + 1) text) (e ∙ cut)) in
+    omega (arith, ap length first, length-take at text, within))
+    (λ none. absurd (some_none (e ∙ ap (parts_at_place text) (cond-false (ltb at (length text)) (Some at) None none))))
     (cases_Bool (ltb at (length text)))

@@ -139,6 +139,7 @@ pub record IsHead (text : List ℕ) (fields : List Field) (rest : List ℕ) : Ty
 -- the lines of records and that of a hash, and no bad line
 pub record IsBody (fields : List Field) (text : List ℕ) (records : List (List ℕ)) (hash : List ℕ) : Type 0 where
   pub lines : lines_of text ≡ map (λ values. values ++ line_end) records ++ hash_line hash ∷ []
+  pub form : is_hash hash ≡ true
   pub good : bad_from 6 (place.Records fields) (lines_of text) ≡ None
 
 -- ---- what it is to be

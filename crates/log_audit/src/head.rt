@@ -90,7 +90,10 @@ fn stands(place: &Place, line: &[u8]) -> bool
         Place::Version => is_version_line(line),
         Place::Uuid => is_uuid_line(line),
         Place::Origin => is_origin_line(line),
-        _ => is_kind_line(line),
+        Place::Kind => is_kind_line(line),
+        Place::Fields => false,
+        Place::Records(_) => false,
+        Place::End => false,
     }
 }
 

@@ -1,6 +1,6 @@
 //! Lines of a text.
 
-ghost use Rattle.std.specs.Prelude.{◌≡◌, ◌+◌, ◌<◌, ◌≤◌, ◌∷◌, bytes_eq, drop, length, option_map, IfSome};
+ghost use Rattle.std.specs.Prelude.{◌≡◌, ◌+◌, ◌<◌, ◌≤◌, ◌∷◌, bytes_eq, drop, length, option_map, take, IfSome};
 ghost use Rattle.log_audit.specs.Lines.{IsCutOff, IsFramed, parts_in};
 
 use listing::cut_at;
@@ -13,12 +13,19 @@ pub(crate) fn first_line(text: &[u8]) -> (&[u8], &[u8])
     requires { 0 < length text.now }
     ensures { IsCutOff text.now result.0.now result.1.now }
 {
+    let end = end_of_line(text);
+    (&text[..end], &text[end..])
+}
+
+// how many bytes the first line has, with its LF
+fn end_of_line(text: &[u8]) -> usize
+    requires { 0 < length text.now }
+    ensures within { result ≤ length text.now }
+    ensures cut { IsCutOff text.now (take result text.now) (drop result text.now) }
+{
     match cut_at(b'\n', text) {
-        Some((before, _)) => {
-            let end = before.len() + 1;
-            (&text[..end], &text[end..])
-        }
-        None => (text, b""),
+        Some((before, _)) => before.len() + 1,
+        None => text.len(),
     }
 }
 

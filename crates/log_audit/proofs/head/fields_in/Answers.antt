@@ -5,7 +5,7 @@ use Rattle.std.proofs.lemmas.Result.{IfOk-weaker}
 use Rattle.cdni_log.specs.FieldList.{fields_of}
 use Rattle.log_audit.specs.LogFile.{names_text}
 use Rattle.log_audit.specs.Value.{is_unbroken}
-use Rattle.log_audit.proofs.HeadLemmas.{fields_none, named_is, same_names}
+use Rattle.log_audit.proofs.HeadLemmas.{fields_none, named_is, same_names, unknown_is}
 use Rattle.log_audit.proofs.head.fields_in.Goals as goal
 
 pub returns-in_default : goal.returns-in_default
@@ -17,7 +17,7 @@ returns-then-not-is_unbroken c =
 
 pub returns-in-Err-Unknown : goal.returns-in-Err-Unknown
 returns-in-Err-Unknown c =
-    fields_none c.args.line.now (λ fields printed plain read. none-some fields (sym c.in-Err-Unknown.ensures ∙ (ap (fields_of 9) (same_names c.args.line.now c.in-Some.names.now (names_text fields) c.in-Some.ensures printed) ∙ read)))
+    fields_none c.args.line.now (λ fields printed plain read. none-some fields (sym (unknown_is _ _ (cc (c.in-Err-Unknown.is, c.in-Err-Unknown.field-0-is)) c.in-Err-Unknown.ensures) ∙ (ap (fields_of 9) (same_names c.args.line.now c.in-Some.names.now (names_text fields) c.in-Some.ensures printed) ∙ read)))
 
 pub returns-in-Ok : goal.returns-in-Ok
 returns-in-Ok c =

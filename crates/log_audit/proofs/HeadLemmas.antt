@@ -1,6 +1,6 @@
 -- The head of a log file, line by line.
 use Rattle.std.proofs.Common.{◌≡◌, ℕ, ◌+◌, ◌-◌, ◌<◌, ◌≤◌, Bool, true, false, cond, List, [], ◌∷◌, ◌++◌, Option, None, Some, Ok, Err, IfOk, ◌==◌, length, map, refl, ap, sym, subst, ◌∙◌, codes, append_assoc, append-nil, arith, is_none, is_some}
-use Rattle.std.proofs.lemmas.Bool.{false≢true}
+use Rattle.std.proofs.lemmas.Bool.{and_parts, eqb-true, false≢true}
 use Rattle.std.proofs.lemmas.List.{length-append}
 use Rattle.std.proofs.lemmas.Option.{none-some, same_Some}
 use Rattle.std.proofs.lemmas.Slice.Eq.{bytes_eq-Decides}
@@ -206,7 +206,19 @@ two_ok (Err e) P Q R both p q = tt
 
 pub empty_is : (text : List ℕ) → true ≡ (length text == 0) → text ≡ []
 empty_is [] e = refl
-empty_is (byte ∷ bytes) e = absurd (false≢true (sym e))
+empty_is (byte ∷ bytes) e = absurd (omega (arith, eqb-true (length (byte ∷ bytes)) 0 (sym e)))
 
 pub unknown_is : (fault : FieldNameFault) (said : Option (List Field)) → fault ≡ field_name_fault.Unknown → Reads (Err fault) said → said ≡ None
 unknown_is fault said same reads = subst (λ (f : FieldNameFault). Reads (Err f) said) same reads
+
+concat_last : (lines : List (List ℕ)) (last : List ℕ) → length last ≤ length (concat (lines ++ last ∷ []))
+concat_last [] last = omega (arith, length-append last [])
+concat_last (line ∷ lines) last = omega (arith, concat_last lines last, length-append line (concat (lines ++ last ∷ [])))
+
+hash_long : (hash : List ℕ) → is_hash hash ≡ true → length (hash_line hash) ≡ 80
+unfolding directive is_hash
+hash_long hash is = omega (arith, eqb-true (length hash) 64 (and_parts _ (length hash == 64) (and_parts _ _ is).0).1, length-append hash line_end)
+
+pub body_long : (fields : List Field) (text : List ℕ) (records : List (List ℕ)) (hash : List ℕ) → IsBody fields text records hash → 80 ≤ length text
+body_long fields text records hash body =
+    omega (arith, concat_last (map ended records) (hash_line hash), ap (λ l. length (concat l)) body.lines, ap length (joined text), hash_long hash body.form)

@@ -4,6 +4,7 @@ pub mod FrameLemmas
 pub mod HeadLemmas
 pub mod LineLemmas
 pub mod MomentLemmas
+pub mod PartLemmas
 pub mod PlaceLemmas
 pub mod UrlLemmas
 pub mod UuidLemmas

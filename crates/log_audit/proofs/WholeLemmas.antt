@@ -24,22 +24,22 @@ step at after line lines stands leads = rw stands leads
 
 -- ---- a file as lines
 
-abbrev record_lines : LogFile → List (List ℕ)
+abbrev pub record_lines : LogFile → List (List ℕ)
 record_lines file = map record_line file.records ++ hash_line file.hash ∷ []
 
-abbrev from_fields : LogFile → List (List ℕ)
+abbrev pub from_fields : LogFile → List (List ℕ)
 from_fields file = directive (codes "fields") (names_text file.fields) ∷ record_lines file
 
-abbrev from_kind : LogFile → List (List ℕ)
+abbrev pub from_kind : LogFile → List (List ℕ)
 from_kind file = directive (codes "record-type") (codes "cdni_http_request_v1") ∷ from_fields file
 
-abbrev from_origin : LogFile → List (List ℕ)
+abbrev pub from_origin : LogFile → List (List ℕ)
 from_origin file = directive (codes "claimed-origin") file.origin ∷ from_kind file
 
-abbrev from_uuid : LogFile → List (List ℕ)
+abbrev pub from_uuid : LogFile → List (List ℕ)
 from_uuid file = directive (codes "UUID") (urn file.uuid) ∷ from_origin file
 
-abbrev file_lines : LogFile → List (List ℕ)
+abbrev pub file_lines : LogFile → List (List ℕ)
 file_lines file = directive (codes "version") (codes "cdni/1.0") ∷ from_uuid file
 
 records_joined : (records : List (List (List ℕ))) (last : List ℕ) → concat (map record_line records ++ last ∷ []) ≡ flat_map record_line records ++ last
@@ -82,6 +82,12 @@ uuid_walk file well = step place.Uuid place.Origin (directive (codes "UUID") (ur
 
 file_walk : (file : LogFile) → IsWell file → walk place.Version (file_lines file) ≡ Some place.End
 file_walk file well = step place.Version place.Uuid (directive (codes "version") (codes "cdni/1.0")) (from_uuid file) stand_version (uuid_walk file well)
+
+-- the lines of the text of a file
+pub lines_are : (text : List ℕ) (file : LogFile) → IsLogFile text file → lines_of text ≡ file_lines file
+lines_are text file is =
+    let all = walked_lines place.Version place.End (file_lines file) (file_walk file is.well) in
+    ap lines_of (is.printed ∙ (sym (print_joined file) ∙ sym (append-nil (concat (file_lines file))))) ∙ (cut_lines (file_lines file) [] all ∙ append-nil (file_lines file))
 
 pub of_file : (text : List ℕ) (file : LogFile) → IsLogFile text file → walk place.Version (lines_of text) ≡ Some place.End
 of_file text file is =

@@ -215,7 +215,7 @@ concat_last : (lines : List (List ℕ)) (last : List ℕ) → length last ≤ le
 concat_last [] last = omega (arith, length-append last [])
 concat_last (line ∷ lines) last = omega (arith, concat_last lines last, length-append line (concat (lines ++ last ∷ [])))
 
-hash_long : (hash : List ℕ) → is_hash hash ≡ true → length (hash_line hash) ≡ 80
+pub hash_long : (hash : List ℕ) → is_hash hash ≡ true → length (hash_line hash) ≡ 80
 unfolding directive is_hash
 hash_long hash is = omega (arith, eqb-true (length hash) 64 (and_parts _ (length hash == 64) (and_parts _ _ is).0).1, length-append hash line_end)
 

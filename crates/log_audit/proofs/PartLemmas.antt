@@ -11,6 +11,7 @@ use Rattle.log_audit.specs.LogFile.{hash_line, hashed_text, is_hash, names_text,
 use Rattle.log_audit.specs.Lines.{bad_line, lines_of, next, IsBody, IsHead}
 use Rattle.log_audit.proofs.FileLemmas.{no_bad_line}
 use Rattle.log_audit.proofs.FrameLemmas.{frame_inside}
+use Rattle.log_audit.proofs.HeadLemmas.{hash_long}
 use Rattle.log_audit.proofs.PlaceLemmas.{stand_fields}
 use Rattle.log_audit.proofs.WholeLemmas.{file_lines, lines_are, record_lines}
 
@@ -67,3 +68,8 @@ file_is text rest fields records hash head body =
     let parts = same_lines file.records records (hash_line file.hash) (hash_line hash) (sym at.1 ∙ body.lines) in
     let named = sym head.named ∙ (ap (next place.Fields) at.0 ∙ stand_fields file.fields well.names well.fields) in
     (file, made.1, same_fields fields file.fields named, parts.0, sym (same_hash file.hash hash parts.1))
+
+pub hashed_is : (text : List ℕ) (file : LogFile) (hash : List ℕ) → IsLogFile text file → hash ≡ file.hash → is_hash hash ≡ true → take (length text - 80) text ≡ hashed_text file
+hashed_is text file hash is same form =
+    let long : length text - 80 ≡ length (hashed_text file) = omega (arith, ap length is.printed, length-append (hashed_text file) (hash_line file.hash), hash_long hash form, ap (λ h. length (hash_line h)) same) in
+    ap (λ n. take n text) long ∙ (ap (take (length (hashed_text file))) is.printed ∙ take_at (hashed_text file) (hash_line file.hash) (length (hashed_text file)) refl)

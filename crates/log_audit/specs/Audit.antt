@@ -56,15 +56,34 @@ pub record IsAudited (file : LogFile) (audited : Audited) : Type 0 where
   pub entity : IsSum (names_of file) file.records (codes "sc-entity-bytes") audited.entity
   pub cached : IsCount (names_of file) file.records (codes "s-cached") (codes "1") audited.cached
 
+-- what is told of the file without its sums
+abbrev pub IsRead : LogFile → Audited → Type 0
+IsRead file audited = (audited.fields ≡ file.fields) × (audited.records ≡ map tabbed file.records)
+
+-- the text is a log file with its own hash, and this is read of it
+abbrev pub ReadsFile : List ℕ → Audited → Type 0
+ReadsFile text audited = IsWithin text × (file : LogFile) × IsLogFile text file × (file.hash ≡ true_hash file)
+    × IsRead file audited
+
+-- another hash is written than was found, or memory was wanted
+abbrev pub IsHashFault : List ℕ → List ℕ → AuditFault → Type 0
+IsHashFault hash true_one (BadHash written found) = (written ≡ hash) × (found ≡ true_one) × (written ≢ found)
+IsHashFault hash true_one Memory = ⊤
+IsHashFault hash true_one other = ⊥
+
+-- the fault of a text that is not accepted
+abbrev pub IsFaultOf : List ℕ → AuditFault → Type 0
+IsFaultOf text (TooLong len) = (len ≡ length text) × (268435456 < length text)
+IsFaultOf text (BadLine line) = IsWithin text × (bad_line text ≡ Some line)
+IsFaultOf text (BadHash written found) = IsWithin text × (file : LogFile) × IsLogFile text file
+    × (written ≡ file.hash) × (found ≡ true_hash file) × (written ≢ found)
+IsFaultOf text Memory = IsWithin text
+
 -- the answer for a text
 abbrev pub Answers : List ℕ → Result Audited AuditFault → Type 0
 Answers text (Ok audited) = IsWithin text × (file : LogFile) × IsLogFile text file
     × (file.hash ≡ true_hash file) × IsAudited file audited
-Answers text (Err (TooLong len)) = (len ≡ length text) × (268435456 < length text)
-Answers text (Err (BadLine line)) = IsWithin text × (bad_line text ≡ Some line)
-Answers text (Err (BadHash written found)) = IsWithin text × (file : LogFile) × IsLogFile text file
-    × (written ≡ file.hash) × (found ≡ true_hash file) × (written ≢ found)
-Answers text (Err Memory) = IsWithin text
+Answers text (Err fault) = IsFaultOf text fault
 
 -- the answer is this one, or memory was wanted
 abbrev pub IsOrMemory : Result Audited AuditFault → AuditFault → Type 0

@@ -1,10 +1,12 @@
 //! The check of a log file.
 
-ghost use Rattle.std.specs.Prelude.{◌≡◌, ◌≢◌, ◌<◌, ℕ, List, length, Err};
+ghost use Rattle.std.specs.Prelude.{◌≡◌, ◌≢◌, ◌<◌, ℕ, List, length, Err, IfErr, IfOk};
 ghost use Rattle.cdni_log.specs.File.{file_text};
 ghost use Rattle.cdni_log.specs.declared.row.FileHead.{FileHead};
 ghost use Rattle.cdni_log.specs.declared.row.Row.{Row};
-ghost use Rattle.log_audit.specs.Audit.{Answers, IsAccepted, IsOrMemory, IsWithin};
+ghost use Rattle.hex.specs.Hex.{encode_lower};
+ghost use Rattle.sha2.specs.Sha256.{sha256};
+ghost use Rattle.log_audit.specs.Audit.{Answers, IsFaultOf, IsHashFault, ReadsFile, IsAccepted, IsOrMemory, IsWithin};
 ghost use Rattle.log_audit.specs.Lines.{IsBadLine};
 ghost use Rattle.log_audit.specs.LogFile.{true_hash, LogFile, IsLogFile};
 ghost use Rattle.log_audit.specs.Written.{HaveForms};
@@ -13,6 +15,7 @@ ghost use Rattle.log_audit.specs.declared.fault.AuditFault.TheVariants.{TooLong,
 use crate::audited::Audited;
 use crate::fault::AuditFault;
 use crate::head::read_head;
+use crate::line::is;
 use crate::records::read_body;
 use crate::totals::sums_of;
 use cdni_log::FieldList;
@@ -48,6 +51,8 @@ pub fn audit(alloc: Global, bytes: &[u8]) -> Result<Audited, AuditFault>
 
 // the same without the laws
 fn checked(alloc: Global, bytes: &[u8]) -> Result<Audited, AuditFault>
+    ensures read { IfOk result (ReadsFile bytes.now) }
+    ensures fault { IfErr result (IsFaultOf bytes.now) }
 {
     if bytes.len() > LENGTH_MAX {
         return Err(AuditFault::TooLong { len: bytes.len() });
@@ -60,13 +65,15 @@ fn checked(alloc: Global, bytes: &[u8]) -> Result<Audited, AuditFault>
 
 // refuses a hash that is not that of these bytes
 fn check_hash(alloc: Global, bytes: &[u8], hash: &[u8]) -> Result<(), AuditFault>
+    ensures same { IfOk result (λ _. hash.now ≡ encode_lower (sha256 bytes.now)) }
+    ensures other { IfErr result (IsHashFault hash.now (encode_lower (sha256 bytes.now))) }
 {
     let mut digits = [0; 64];
     match hex::encode_to_slice(&Sha256::digest(bytes), &mut digits) {
         Ok(()) => {}
         Err(_) => unreachable!(),
     }
-    if hash == digits.as_slice() {
+    if is(hash, &digits) {
         return Ok(());
     }
     Err(AuditFault::BadHash {
@@ -77,6 +84,8 @@ fn check_hash(alloc: Global, bytes: &[u8], hash: &[u8]) -> Result<(), AuditFault
 
 // what is told of a file with these fields and records
 fn told_of(fields: FieldList, records: TextList) -> Audited
+    ensures fields { result.fields ≡ fields }
+    ensures records { result.records ≡ records }
 {
     let sums = sums_of(fields.as_slice(), records.as_slice());
     Audited {

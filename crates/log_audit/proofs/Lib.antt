@@ -1,3 +1,4 @@
+pub mod AuditLemmas
 pub mod FileLemmas
 pub mod FormLemmas
 pub mod FrameLemmas

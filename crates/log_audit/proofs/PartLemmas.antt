@@ -1,5 +1,5 @@
 -- The parts that are read are those of the file.
-use Rattle.std.proofs.Common.{◌≡◌, ℕ, ◌+◌, ◌-◌, ◌≤◌, List, [], ◌∷◌, ◌++◌, Option, None, Some, length, map, take, refl, ap, sym, ◌∙◌, codes, append-nil, arith, take_at}
+use Rattle.std.proofs.Common.{◌≡◌, ℕ, ◌+◌, ◌-◌, ◌≤◌, true, List, [], ◌∷◌, ◌++◌, Option, None, Some, length, map, take, refl, ap, sym, ◌∙◌, codes, append-nil, arith, take_at}
 use Rattle.std.proofs.lemmas.List.{length-append}
 use Rattle.std.proofs.lemmas.Option.{same_Some}
 use Rattle.std.specs.List.{concat}
@@ -25,7 +25,7 @@ tail_same e = cc
 before_end : (a b : List ℕ) → a ++ line_end ≡ b ++ line_end → a ≡ b
 before_end a b e =
     let long : length a ≡ length b = omega (arith, ap length e, length-append a line_end, length-append b line_end) in
-    sym (take_at a line_end (length b) (sym long)) ∙ (ap (take (length b)) e ∙ take_at b line_end (length b) refl)
+    sym (take_at a line_end (length b) long) ∙ (ap (take (length b)) e ∙ take_at b line_end (length b) refl)
 
 same_hash : (a b : List ℕ) → hash_line a ≡ hash_line b → a ≡ b
 unfolding directive
@@ -73,3 +73,14 @@ pub hashed_is : (text : List ℕ) (file : LogFile) (hash : List ℕ) → IsLogFi
 hashed_is text file hash is same form =
     let long : length text - 80 ≡ length (hashed_text file) = omega (arith, ap length is.printed, length-append (hashed_text file) (hash_line file.hash), hash_long hash form, ap (λ h. length (hash_line h)) same) in
     ap (λ n. take n text) long ∙ (ap (take (length (hashed_text file))) is.printed ∙ take_at (hashed_text file) (hash_line file.hash) (length (hashed_text file)) refl)
+
+ended_records : (records : List (List (List ℕ))) → map record_line records ≡ map ended (map tabbed records)
+ended_records [] = refl
+ended_records (values ∷ records) = ap (λ l. record_line values ∷ l) (ended_records records)
+
+-- two files of the same lines have one hash
+pub last_same : (file other : LogFile) → file_lines file ≡ file_lines other → file.hash ≡ other.hash
+last_same file other e =
+    let lines : record_lines file ≡ record_lines other = tail_same (tail_same (tail_same (tail_same (tail_same e)))) in
+    let parts = same_lines file.records (map tabbed other.records) (hash_line file.hash) (hash_line other.hash) (lines ∙ ap (λ l. l ++ hash_line other.hash ∷ []) (ended_records other.records)) in
+    same_hash file.hash other.hash parts.1

@@ -101,10 +101,20 @@ behind_is text rest secure front is =
     let four = and_parts (ltb 0 h) (list_all (λ byte. to_ascii_lowercase byte == byte) (take h authority)) three.0 in
     let port = port_is (drop h authority) three.1 in
     let tail = tail_is (drop n rest) (drop_index n rest ∙ eqb-true (slice_index rest n) 47 one.1) two.1 in
-    let host_is : authority ≡ take h authority ++ port_text port.0 = sym (take-append-drop h authority) ∙ ap (λ t. take h authority ++ t) port.1 in
-    (secure, take h authority, port.0, tail.0, tail.1,
-    assembled text (scheme_text secure) rest authority (drop n rest) (take h authority) (port_text port.0) tail.0 (query_text tail.1) front (sym (take-append-drop n rest)) host_is tail.2,
-    host_of_length authority (ltb-true 0 h four.0), lower_is (take h authority) four.1, port.2, port.3, tail.3, tail.4)
+    let host_is : authority ≡ take h authority ++ port_text port.0 = sym (take-append-drop h authority) ∙ ap (λ t. take h authority ++ t) port.1 in (
+      secure,
+      take h authority,
+      port.0,
+      tail.0,
+      tail.1,
+      assembled text (scheme_text secure) rest authority (drop n rest) (take h authority) (port_text port.0) tail.0 (query_text tail.1) front (sym (take-append-drop n rest)) host_is tail.2,
+      host_of_length authority (ltb-true 0 h four.0),
+      lower_is (take h authority) four.1,
+      port.2,
+      port.3,
+      tail.3,
+      tail.4,
+    )
 
 scheme_is : (text rest : List ℕ) → behind_scheme text ≡ Some rest → (secure : Bool) × (text ≡ scheme_text secure ++ rest)
 scheme_is text rest is = by (bytes_eq (take 7 text) (codes "http://")) refl (bytes_eq (take 8 text) (codes "https://")) refl is

@@ -197,7 +197,7 @@ made text (a, a_is, (uuid, b, b_is, uuid_well, (origin, c, c_is, origin_well, (d
     let well : IsWell file = record { uuid = uuid_well; origin = origin_well; names = unbroken; fields = named; records = records_well; hash = hash_well } in
     let printed = printed_by text _ a _ b _ c _ d _ e _ a_is b_is c_is d_is e_is f_is in
     let whole = in_front (directive (codes "version") (codes "cdni/1.0")) (directive (codes "UUID") (urn uuid)) (directive (codes "claimed-origin") origin) (directive (codes "record-type") (codes "cdni_http_request_v1"))
-        (directive (codes "fields") (names_text fields)) (flat_map record_line records) (hash_line hash) in
+    (directive (codes "fields") (names_text fields)) (flat_map record_line records) (hash_line hash) in
     (file, record { printed = printed ∙ sym whole; well = well })
 
 pub to_file : (text : List ℕ) → walk place.Version (lines_of text) ≡ Some place.End → (file : LogFile) × IsLogFile text file

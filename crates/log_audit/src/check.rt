@@ -15,6 +15,10 @@ ghost use Rattle.log_audit.specs.declared.fault.AuditFault.TheVariants.{TooLong,
 use crate::audited::Audited;
 use crate::fault::AuditFault;
 use crate::head::read_head;
+use crate::laws::{
+    a_bad_line_is_the_first_that_nothing_mends, a_log_file_has_no_bad_line,
+    a_value_is_what_its_form_says, what_is_written_is_a_log_file,
+};
 use crate::line::is;
 use crate::records::read_body;
 use crate::totals::sums_of;
@@ -46,6 +50,10 @@ pub fn audit(alloc: Global, bytes: &[u8]) -> Result<Audited, AuditFault>
     ensures written { (head : FileHead) (rows : List Row) → HaveForms head rows → bytes.now ≡ file_text head rows
         → IsWithin bytes.now → IsAccepted result }
 {
+    a_log_file_has_no_bad_line();
+    a_bad_line_is_the_first_that_nothing_mends();
+    what_is_written_is_a_log_file();
+    a_value_is_what_its_form_says();
     checked(alloc, bytes)
 }
 
@@ -59,8 +67,10 @@ fn checked(alloc: Global, bytes: &[u8]) -> Result<Audited, AuditFault>
     }
     let head = read_head(alloc, bytes)?;
     let body = read_body(alloc, head.fields.as_slice(), head.rest)?;
-    check_hash(alloc, &bytes[..bytes.len() - HASH_LINE], body.hash)?;
-    Ok(told_of(head.fields, body.records))
+    match check_hash(alloc, &bytes[..bytes.len() - HASH_LINE], body.hash) {
+        Ok(()) => Ok(told_of(head.fields, body.records)),
+        Err(fault) => Err(fault),
+    }
 }
 
 // refuses a hash that is not that of these bytes

@@ -78,7 +78,11 @@ fn behind<'a>(place: &Place, text: &'a [u8]) -> Option<&'a [u8]>
     let Some((line, rest)) = cut_line(text) else {
         return None;
     };
-    if stands(place, line) { Some(rest) } else { None }
+    if stands(place, line) {
+        Some(rest)
+    } else {
+        None
+    }
 }
 
 // whether the line may stand at this place, which is one of the four before the fields
@@ -209,11 +213,19 @@ fn fields_in(alloc: Global, line: &[u8]) -> Result<Option<FieldList>, AllocError
 }
 
 // the fields, where these are their names as they are written
-fn as_written(alloc: Global, fields: FieldList, names: &[u8]) -> Result<Option<FieldList>, AllocError>
+fn as_written(
+    alloc: Global,
+    fields: FieldList,
+    names: &[u8],
+) -> Result<Option<FieldList>, AllocError>
     ensures { IfOk result (λ found. found ≡ (if bytes_eq names.now (names_text fields) then Some fields else None)) }
 {
     let written = written_names(alloc, fields.as_slice())?;
-    if is(names, &written) { Ok(Some(fields)) } else { Ok(None) }
+    if is(names, &written) {
+        Ok(Some(fields))
+    } else {
+        Ok(None)
+    }
 }
 
 // the names of the fields, joined by tabs

@@ -48,7 +48,9 @@ fn address_length(text: &[u8]) -> usize
     ensures length { result ≡ prefix_len is_address_byte text.now }
     ensures within { result ≤ length text.now }
 {
-    text.iter().take_while(|byte| is_address_byte(**byte)).count()
+    text.iter()
+        .take_while(|byte| is_address_byte(**byte))
+        .count()
 }
 
 fn is_address_byte(byte: u8) -> bool

@@ -27,7 +27,7 @@ pub fn a_bad_line_is_the_first_that_nothing_mends()
 pub fn what_is_written_is_a_log_file()
     ensures { (head : FileHead) (rows : List Row) → HaveForms head rows
         → IsLogFile (file_text head rows) (file_of head rows)
-            × ((file_of head rows).hash ≡ true_hash (file_of head rows)) }
+        × ((file_of head rows).hash ≡ true_hash (file_of head rows)) }
 {}
 
 /// Each value of a record is what the standards say: a date that exists, a time of day, seconds with three decimals,

@@ -8,16 +8,18 @@ use listing::Text;
 use std::alloc::{AllocError, Global};
 
 // adds the records and the totals
-pub(crate) fn add_printed(alloc: Global, out: &mut Vec<u8>, audited: &Audited) -> Result<(), AllocError>
-{
+pub(crate) fn add_printed(
+    alloc: Global,
+    out: &mut Vec<u8>,
+    audited: &Audited,
+) -> Result<(), AllocError> {
     let places = printed_places(alloc, audited.fields.as_slice())?;
     add_records(out, &places, audited.records.as_slice())?;
     add_totals(out, audited)
 }
 
 // the places of the fields in the order in which they are printed
-fn printed_places(alloc: Global, fields: &[Field]) -> Result<Vec<usize>, AllocError>
-{
+fn printed_places(alloc: Global, fields: &[Field]) -> Result<Vec<usize>, AllocError> {
     let order = default_fields(alloc)?;
     let mut places = Vec::new(alloc);
     'order: for field in order.as_slice() {
@@ -29,8 +31,7 @@ fn printed_places(alloc: Global, fields: &[Field]) -> Result<Vec<usize>, AllocEr
     Ok(places)
 }
 
-fn add_header_places(places: &mut Vec<usize>, fields: &[Field]) -> Result<(), AllocError>
-{
+fn add_header_places(places: &mut Vec<usize>, fields: &[Field]) -> Result<(), AllocError> {
     'fields: for field in fields {
         if matches!(field, Field::Header(_)) {
             if let Some(place) = place_of(field, fields) {
@@ -42,8 +43,7 @@ fn add_header_places(places: &mut Vec<usize>, fields: &[Field]) -> Result<(), Al
 }
 
 // the place of the first field of this name
-fn place_of(field: &Field, fields: &[Field]) -> Option<usize>
-{
+fn place_of(field: &Field, fields: &[Field]) -> Option<usize> {
     'fields: for (at, other) in fields.iter().enumerate() {
         if field == other {
             return Some(at);
@@ -52,8 +52,7 @@ fn place_of(field: &Field, fields: &[Field]) -> Option<usize>
     None
 }
 
-fn add_records(out: &mut Vec<u8>, places: &[usize], records: &[Text]) -> Result<(), AllocError>
-{
+fn add_records(out: &mut Vec<u8>, places: &[usize], records: &[Text]) -> Result<(), AllocError> {
     'records: for record in records {
         add_values(out, places, record.bytes())?;
         out.extend_from_slice(b"\n")?;
@@ -62,15 +61,18 @@ fn add_records(out: &mut Vec<u8>, places: &[usize], records: &[Text]) -> Result<
 }
 
 // adds the values at these places, joined by tabs
-fn add_values(out: &mut Vec<u8>, places: &[usize], record: &[u8]) -> Result<(), AllocError>
-{
+fn add_values(out: &mut Vec<u8>, places: &[usize], record: &[u8]) -> Result<(), AllocError> {
     let mut next = 0;
     let mut left = Some(record);
     'places: for (number, place) in places.iter().enumerate() {
         if number > 0 {
             out.extend_from_slice(&[TAB])?;
         }
-        let from = if *place >= next { values_from(*place - next, left) } else { values_from(*place, Some(record)) };
+        let from = if *place >= next {
+            values_from(*place - next, left)
+        } else {
+            values_from(*place, Some(record))
+        };
         if let Some(values) = from {
             let (value, others) = first_value(values);
             out.extend_from_slice(value)?;
@@ -82,8 +84,7 @@ fn add_values(out: &mut Vec<u8>, places: &[usize], record: &[u8]) -> Result<(), 
 }
 
 // adds the line of the totals
-fn add_totals(out: &mut Vec<u8>, audited: &Audited) -> Result<(), AllocError>
-{
+fn add_totals(out: &mut Vec<u8>, audited: &Audited) -> Result<(), AllocError> {
     let mut digits = Buffer::new();
     out.extend_from_slice(b"records ")?;
     out.extend_from_slice(digits.format(audited.records.len()).as_bytes())?;

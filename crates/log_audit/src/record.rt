@@ -57,7 +57,11 @@ fn url_after<'a>(field: &Field, url: Option<&'a [u8]>, value: &'a [u8]) -> Optio
     ensures { option_map (λ bytes. bytes.now) result
         ≡ url_after field.now (option_map (λ bytes. bytes.now) url.entry) value.now }
 {
-    if is_url_field(field) { Some(value) } else { url }
+    if is_url_field(field) {
+        Some(value)
+    } else {
+        url
+    }
 }
 
 fn is_url_field(field: &Field) -> bool

@@ -26,7 +26,11 @@ pub(crate) struct Body<'a> {
 const FIRST: u64 = 6;
 
 // the records with these fields and the hash, or the bad line
-pub(crate) fn read_body<'a>(alloc: Global, fields: &[Field], text: &'a [u8]) -> Result<Body<'a>, AuditFault>
+pub(crate) fn read_body<'a>(
+    alloc: Global,
+    fields: &[Field],
+    text: &'a [u8],
+) -> Result<Body<'a>, AuditFault>
     requires { length text.now ≤ 268435456 }
     ensures body { IfOk result (λ body. IsBody fields.now text.now body.records body.hash.now) }
     ensures bad { IfErr result (IsBad (bad_from 6 (place.Records fields.now) (lines_of text.now))) }
@@ -47,7 +51,12 @@ pub(crate) fn read_body<'a>(alloc: Global, fields: &[Field], text: &'a [u8]) -> 
 }
 
 // the records and the hash, where the line behind them is that of a hash, and nothing follows
-fn last_line<'a>(records: TextList, number: u64, line: &'a [u8], rest: &[u8]) -> Result<Body<'a>, AuditFault>
+fn last_line<'a>(
+    records: TextList,
+    number: u64,
+    line: &'a [u8],
+    rest: &[u8],
+) -> Result<Body<'a>, AuditFault>
     requires { number < 2 ^ 63 }
     ensures last { IfOk result (λ body. IsLast line.now rest.now body.hash.now) }
     ensures records { IfOk result (λ body. body.records ≡ records) }

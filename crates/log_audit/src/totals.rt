@@ -23,8 +23,7 @@ struct Amounts<'a> {
 }
 
 // the sums over these records
-pub(crate) fn sums_of(fields: &[Field], records: &[Text]) -> Sums
-{
+pub(crate) fn sums_of(fields: &[Field], records: &[Text]) -> Sums {
     let mut total: u128 = 0;
     let mut entity: u128 = 0;
     let mut cached: u64 = 0;
@@ -42,8 +41,7 @@ pub(crate) fn sums_of(fields: &[Field], records: &[Text]) -> Sums
 }
 
 // the values that are summed
-fn amounts_of<'a>(fields: &[Field], record: &'a [u8]) -> Amounts<'a>
-{
+fn amounts_of<'a>(fields: &[Field], record: &'a [u8]) -> Amounts<'a> {
     let mut amounts = Amounts {
         total: b"",
         entity: b"",
@@ -62,8 +60,7 @@ fn amounts_of<'a>(fields: &[Field], record: &'a [u8]) -> Amounts<'a>
 }
 
 // the values with this one of this field
-fn amounts_after<'a>(amounts: Amounts<'a>, field: &Field, value: &'a [u8]) -> Amounts<'a>
-{
+fn amounts_after<'a>(amounts: Amounts<'a>, field: &Field, value: &'a [u8]) -> Amounts<'a> {
     match field {
         Field::TotalBytes => Amounts {
             total: value,
@@ -82,8 +79,7 @@ fn amounts_after<'a>(amounts: Amounts<'a>, field: &Field, value: &'a [u8]) -> Am
 }
 
 // the number that is written, 0 where none is
-fn number_in(text: &[u8]) -> u64
-{
+fn number_in(text: &[u8]) -> u64 {
     read_decimal(text).unwrap_or(0)
 }
 

@@ -25,7 +25,8 @@ pub(crate) fn is_value(field: &Field, text: &[u8]) -> bool
 fn is_plain(text: &[u8]) -> bool
     ensures { result ≡ is_plain text.now }
 {
-    text.iter().all(|byte| *byte != 9 && *byte != 10 && *byte != 13)
+    text.iter()
+        .all(|byte| *byte != 9 && *byte != 10 && *byte != 13)
 }
 
 #[tactic(auto, unfolding(crate::specs::Value::has_form))]

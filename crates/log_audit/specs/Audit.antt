@@ -47,16 +47,13 @@ pub record IsCount (names : List (List ℕ)) (records : List (List (List ℕ))) 
 abbrev pub names_of : LogFile → List (List ℕ)
 names_of file = map field_name file.fields
 
--- what is told of a log file: its fields, the line of each record, the sums of the bytes that were sent and how many
--- records say that the content was kept
-pub record IsAudited (file : LogFile) (audited : Audited) : Type 0 where
-  pub fields : audited.fields ≡ file.fields
-  pub records : audited.records ≡ map tabbed file.records
+-- the sums that are told of a log file: of the bytes that were sent, and how many records say that the content was kept
+pub record HasSums (file : LogFile) (audited : Audited) : Type 0 where
   pub total : IsSum (names_of file) file.records (codes "sc-total-bytes") audited.total
   pub entity : IsSum (names_of file) file.records (codes "sc-entity-bytes") audited.entity
   pub cached : IsCount (names_of file) file.records (codes "s-cached") (codes "1") audited.cached
 
--- what is told of the file without its sums
+-- what is told of the file but its sums: its fields, and the line of each record without its end
 abbrev pub IsRead : LogFile → Audited → Type 0
 IsRead file audited = (audited.fields ≡ file.fields) × (audited.records ≡ map tabbed file.records)
 
@@ -78,12 +75,6 @@ IsFaultOf text (BadLine line) = IsWithin text × (bad_line text ≡ Some line)
 IsFaultOf text (BadHash written found) = IsWithin text × (file : LogFile) × IsLogFile text file
     × (written ≡ file.hash) × (found ≡ true_hash file) × (written ≢ found)
 IsFaultOf text Memory = IsWithin text
-
--- the answer for a text
-abbrev pub Answers : List ℕ → Result Audited AuditFault → Type 0
-Answers text (Ok audited) = IsWithin text × (file : LogFile) × IsLogFile text file
-    × (file.hash ≡ true_hash file) × IsAudited file audited
-Answers text (Err fault) = IsFaultOf text fault
 
 -- the answer is this one, or memory was wanted
 abbrev pub IsOrMemory : Result Audited AuditFault → AuditFault → Type 0

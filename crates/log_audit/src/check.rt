@@ -6,7 +6,7 @@ ghost use Rattle.cdni_log.specs.declared.row.FileHead.{FileHead};
 ghost use Rattle.cdni_log.specs.declared.row.Row.{Row};
 ghost use Rattle.hex.specs.Hex.{encode_lower};
 ghost use Rattle.sha2.specs.Sha256.{sha256};
-ghost use Rattle.log_audit.specs.Audit.{Answers, IsFaultOf, IsHashFault, ReadsFile, IsAccepted, IsOrMemory, IsWithin};
+ghost use Rattle.log_audit.specs.Audit.{HasSums, IsFaultOf, IsHashFault, ReadsFile, IsAccepted, IsOrMemory, IsWithin};
 ghost use Rattle.log_audit.specs.Lines.{IsBadLine};
 ghost use Rattle.log_audit.specs.LogFile.{true_hash, LogFile, IsLogFile};
 ghost use Rattle.log_audit.specs.Written.{HaveForms};
@@ -40,7 +40,9 @@ const HASH_LINE: usize = 80;
 /// `TooLong` exactly above 268,435,456 bytes, and else `BadLine` exactly where the text is no log file, with the first
 /// line after which no text makes it one; `BadHash` exactly where it is one, but has another hash; want of memory.
 pub fn audit(alloc: Global, bytes: &[u8]) -> Result<Audited, AuditFault>
-    ensures answer { Answers bytes.now result }
+    ensures read { IfOk result (ReadsFile bytes.now) }
+    ensures sums { IfOk result (λ audited. (file : LogFile) → IsLogFile bytes.now file → HasSums file audited) }
+    ensures fault { IfErr result (IsFaultOf bytes.now) }
     ensures too_long { 268435456 < length bytes.now → result ≡ Err (TooLong (length bytes.now)) }
     ensures bad_line { (n : ℕ) → IsWithin bytes.now → IsBadLine bytes.now n → IsOrMemory result (BadLine n) }
     ensures bad_hash { (file : LogFile) → IsWithin bytes.now → IsLogFile bytes.now file → file.hash ≢ true_hash file

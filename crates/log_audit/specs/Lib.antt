@@ -2,6 +2,5 @@ pub mod Audit
 pub mod Forms
 pub mod Lines
 pub mod LogFile
-pub mod Print
 pub mod Value
 pub mod Written

@@ -11,7 +11,6 @@ pub mod laws;
 mod line;
 mod moment;
 mod place;
-mod print;
 mod record;
 mod records;
 mod totals;

@@ -63,18 +63,3 @@ pub(crate) fn first_value(values: &[u8]) -> (&[u8], Option<&[u8]>)
         None => (values, None),
     }
 }
-
-// the values from this place on, counted from 0, of those between which tabs stand
-pub(crate) fn values_from(place: usize, values: Option<&[u8]>) -> Option<&[u8]>
-    ensures { parts_in (option_map (λ bytes. bytes.now) result)
-        ≡ drop place (parts_in (option_map (λ bytes. bytes.now) values.entry)) }
-{
-    let Some(bytes) = values else {
-        return None;
-    };
-    if place == 0 {
-        return Some(bytes);
-    }
-    let (_, others) = first_value(bytes);
-    values_from(place - 1, others)
-}

@@ -41,8 +41,8 @@ totals_text audited = (codes "records " ++ decimal (length audited.records)) ++ 
     ++ (codes " entity " ++ decimal audited.entity) ++ (codes " cached " ++ decimal audited.cached) ++ 10 ∷ []
 
 -- the records, each in a line, and the totals
-unfoldable pub report : Audited → List ℕ
-report audited = flat_map (printed_record audited.fields) audited.records ++ totals_text audited
+unfoldable pub report_text : Audited → List ℕ
+report_text audited = flat_map (printed_record audited.fields) audited.records ++ totals_text audited
 
 -- ---- its parts
 

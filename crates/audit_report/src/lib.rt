@@ -6,4 +6,4 @@ pub mod laws;
 mod places;
 mod report;
 
-pub use report::report;
+pub use report::report_text;

@@ -3,7 +3,7 @@
 ghost use Rattle.std.specs.Prelude.{◌≡◌, ◌+◌, ◌<◌, ◌++◌, ◌∷◌, ℕ, List, Some, count_by, decimal, length, true, IfOk, IfSome, OnOk, ◌==◌};
 ghost use Rattle.std.specs.List.{flat_map};
 ghost use Rattle.std.specs.Option.{option_map};
-ghost use Rattle.audit_report.specs.Report.{are_next, printed_order, printed_places, printed_record, put_into, report, totals_text};
+ghost use Rattle.audit_report.specs.Report.{are_next, printed_order, printed_places, printed_record, put_into, report_text, totals_text};
 ghost use Rattle.audit_report.specs.Report.{value_at, values_at, values_of};
 ghost use Rattle.cdni_log.specs.FieldList.{are_apart, names_in};
 ghost use Rattle.cdni_log.specs.Line.{tabbed, tabbed_behind};
@@ -26,8 +26,9 @@ const TAB: u8 = 9;
 ///
 /// # Errors
 /// Want of memory.
-pub fn report(alloc: Global, audited: &Audited) -> Result<Text, AllocError>
-    ensures text { IfOk result (λ text. text ≡ report audited.now) }
+#[tactic(auto, unfolding(crate::specs::Report::report_text))]
+pub fn report_text(alloc: Global, audited: &Audited) -> Result<Text, AllocError>
+    ensures text { IfOk result (λ text. text ≡ report_text audited.now) }
     ensures put_back { (fields : List Field) (values : List (List ℕ)) → are_apart fields ≡ true
         → length values ≡ length fields
         → put_into (printed_order fields) (put_into fields values (printed_order fields)) fields ≡ values }

@@ -7,14 +7,10 @@ use Rattle.std.proofs.lemmas.Option.{none-some, some_pair_parts}
 use Rattle.std.proofs.lemmas.Slice.Eq.{bytes_eq-Decides}
 use Rattle.std.specs.Prelude.{bytes_eq, nat_le, nat_lt, slice_index, slice_range}
 use Rattle.std.specs.Option.{option_map, option_map_or}
-use Rattle.std.specs.Result.{result_ok}
 use Rattle.listing.specs.Number.{number_of}
 use Rattle.listing.specs.Word.{parts_at}
 use Rattle.listing.proofs.Decimals.{some_decimal}
-use Rattle.targets.specs.Target.{target_of}
-use Rattle.targets.specs.declared.target.Target.{Target}
-use Rattle.targets.specs.declared.target.TargetFault.{TargetFault}
-use Rattle.targets.proofs.TargetLemmas.{target_read}
+use Rattle.log_audit.proofs.UrlLemmas.{url_is}
 use Rattle.cdni_log.specs.Columns.{undoubled}
 use Rattle.cdni_log.specs.Date.{clock_text, date_text, three_digits}
 use Rattle.cdni_log.specs.Line.{quoted}
@@ -40,9 +36,9 @@ date_is text is =
 time_is : (text : List ℕ) → is_time text ≡ true → IsTimeText text
 unfolding is_time
 time_is text is =
-    let both = and_parts _ (bytes_eq (drop 8 text) (46 ∷ three_digits (digits_of (slice_range text 9 12)))) is in
-    let first = and_parts (nat_lt (second_in text) 86400) (bytes_eq (take 8 text) (clock_text (second_in text))) both.0 in
-    (second_in text, digits_of (slice_range text 9 12), sym (take-append-drop 8 text) ∙ (ap (λ t. t ++ drop 8 text) (same_text _ _ first.1) ∙ ap (λ t. clock_text (second_in text) ++ t) (same_text _ _ both.1)), ltb-true (second_in text) 86400 first.0)
+    let both = and_parts _ (bytes_eq text (clock_text (second_in text) ++ 46 ∷ three_digits (digits_of (slice_range text 9 12)))) is in
+    let first = and_parts (nat_lt (second_in text) 86400) (nat_lt (digits_of (slice_range text 9 12)) 1000) both.0 in
+    (second_in text, digits_of (slice_range text 9 12), same_text _ _ both.1, ltb-true (second_in text) 86400 first.0, ltb-true (digits_of (slice_range text 9 12)) 1000 first.1)
 
 number_by : (text : List ℕ) (read : Option ℕ) → read ≡ number_of text → is_some read ≡ true → IsNumberText text
 number_by text None e is = absurd (false≢true is)
@@ -95,14 +91,6 @@ group_is text is = ⊎_elim (λ none. inl (same_text text (codes "-") none)) (λ
         let both = and_parts (bytes_eq (take 2 text) (codes "as")) _ some in
         let n = group_by (drop 2 text) (number_of (drop 2 text)) refl both.1 in
         (n.0, sym (take-append-drop 2 text) ∙ (ap (λ t. t ++ drop 2 text) (same_text (take 2 text) (codes "as") both.0) ∙ ap (λ t. codes "as" ++ t) n.1), n.2)
-
-url_by : (text : List ℕ) (read : Result Target TargetFault) → target_of text None false ≡ read → is_some (result_ok read) ≡ true → IsUrlText text
-url_by text (Ok target) e is = (target, target_read text None false target e)
-url_by text (Err fault) e is = absurd (false≢true is)
-
-url_is : (text : List ℕ) → is_url text ≡ true → IsUrlText text
-unfolding is_url
-url_is text is = url_by text (target_of text None false) refl (and_parts _ (is_some (result_ok (target_of text None false))) is).1
 
 value_by : (inner text : List ℕ) (read : Option (List ℕ)) → text ≡ quoted inner → undoubled false inner ≡ read → is_some read ≡ true → IsOptionalText text
 value_by inner text None q e is = absurd (false≢true is)

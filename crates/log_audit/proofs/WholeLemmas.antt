@@ -12,7 +12,7 @@ use Rattle.cdni_log.specs.Line.{directive}
 use Rattle.log_audit.specs.declared.place.Place.{Place}
 use Rattle.log_audit.specs.declared.place.Place.TheVariants as place
 use Rattle.log_audit.specs.Lines.{is_end, lines_of, next, values_in}
-use Rattle.log_audit.specs.LogFile.{hash_line, is_hash, is_origin, is_uuid, names_text, print, record_line, urn, LogFile, IsLogFile, IsWell}
+use Rattle.log_audit.specs.LogFile.{hash_line, is_hash, is_origin, is_uuid, names_text, hashed_text, print, record_line, urn, LogFile, IsLogFile, IsWell}
 use Rattle.log_audit.specs.Value.{is_record, is_unbroken}
 use Rattle.log_audit.proofs.LineLemmas.{cut_lines, joined}
 use Rattle.log_audit.proofs.PlaceLemmas.{IsHashOf, IsRecordOf, NamesFields, some_fields, stand_fields, stand_hash, stand_kind, stand_origin, stand_record, stand_uuid, stand_version, told_end, told_fields, told_kind, told_origin, told_record, told_uuid, told_version}
@@ -24,22 +24,22 @@ step at after line lines stands leads = rw stands leads
 
 -- ---- a file as lines
 
-abbrev record_lines : LogFile → List (List ℕ)
+abbrev pub record_lines : LogFile → List (List ℕ)
 record_lines file = map record_line file.records ++ hash_line file.hash ∷ []
 
-abbrev from_fields : LogFile → List (List ℕ)
+abbrev pub from_fields : LogFile → List (List ℕ)
 from_fields file = directive (codes "fields") (names_text file.fields) ∷ record_lines file
 
-abbrev from_kind : LogFile → List (List ℕ)
+abbrev pub from_kind : LogFile → List (List ℕ)
 from_kind file = directive (codes "record-type") (codes "cdni_http_request_v1") ∷ from_fields file
 
-abbrev from_origin : LogFile → List (List ℕ)
+abbrev pub from_origin : LogFile → List (List ℕ)
 from_origin file = directive (codes "claimed-origin") file.origin ∷ from_kind file
 
-abbrev from_uuid : LogFile → List (List ℕ)
+abbrev pub from_uuid : LogFile → List (List ℕ)
 from_uuid file = directive (codes "UUID") (urn file.uuid) ∷ from_origin file
 
-abbrev file_lines : LogFile → List (List ℕ)
+abbrev pub file_lines : LogFile → List (List ℕ)
 file_lines file = directive (codes "version") (codes "cdni/1.0") ∷ from_uuid file
 
 records_joined : (records : List (List (List ℕ))) (last : List ℕ) → concat (map record_line records ++ last ∷ []) ≡ flat_map record_line records ++ last
@@ -50,11 +50,16 @@ records_joined (values ∷ records) last =
 five : (a b c d e x y : List ℕ) → x ≡ y → a ++ (b ++ (c ++ (d ++ (e ++ x)))) ≡ a ++ (b ++ (c ++ (d ++ (e ++ y))))
 five a b c d e x y same = ap (λ t. a ++ (b ++ (c ++ (d ++ (e ++ t))))) same
 
+in_front : (a b c d e records hash : List ℕ) → (a ++ (b ++ (c ++ (d ++ (e ++ records))))) ++ hash ≡ a ++ (b ++ (c ++ (d ++ (e ++ (records ++ hash)))))
+in_front a b c d e records hash = simp append_assoc
+
 print_joined : (file : LogFile) → concat (file_lines file) ≡ print file
-unfolding print
+unfolding hashed_text
 print_joined file =
     five (directive (codes "version") (codes "cdni/1.0")) (directive (codes "UUID") (urn file.uuid)) (directive (codes "claimed-origin") file.origin) (directive (codes "record-type") (codes "cdni_http_request_v1"))
     (directive (codes "fields") (names_text file.fields)) (concat (record_lines file)) (flat_map record_line file.records ++ hash_line file.hash) (records_joined file.records (hash_line file.hash))
+    ∙ sym (in_front (directive (codes "version") (codes "cdni/1.0")) (directive (codes "UUID") (urn file.uuid)) (directive (codes "claimed-origin") file.origin) (directive (codes "record-type") (codes "cdni_http_request_v1"))
+    (directive (codes "fields") (names_text file.fields)) (flat_map record_line file.records) (hash_line file.hash))
 
 records_walk : (fields : List Field) (records : List (List (List ℕ))) (hash : List ℕ) → 1 ≤ length fields → AllByRecursion (λ values. is_record fields values ≡ true) records → is_hash hash ≡ true → walk (place.Records fields) (map record_line records ++ hash_line hash ∷ []) ≡ Some place.End
 records_walk fields [] hash some all is = step (place.Records fields) place.End (hash_line hash) [] (stand_hash fields hash is) refl
@@ -77,6 +82,12 @@ uuid_walk file well = step place.Uuid place.Origin (directive (codes "UUID") (ur
 
 file_walk : (file : LogFile) → IsWell file → walk place.Version (file_lines file) ≡ Some place.End
 file_walk file well = step place.Version place.Uuid (directive (codes "version") (codes "cdni/1.0")) (from_uuid file) stand_version (uuid_walk file well)
+
+-- the lines of the text of a file
+pub lines_are : (text : List ℕ) (file : LogFile) → IsLogFile text file → lines_of text ≡ file_lines file
+lines_are text file is =
+    let all = walked_lines place.Version place.End (file_lines file) (file_walk file is.well) in
+    ap lines_of (is.printed ∙ (sym (print_joined file) ∙ sym (append-nil (concat (file_lines file))))) ∙ (cut_lines (file_lines file) [] all ∙ append-nil (file_lines file))
 
 pub of_file : (text : List ℕ) (file : LogFile) → IsLogFile text file → walk place.Version (lines_of text) ≡ Some place.End
 of_file text file is =
@@ -180,12 +191,14 @@ printed_by : (text version a uuid b origin c kind d fields e records : List ℕ)
 printed_by text version a uuid b origin c kind d fields e records one two three four five six = rw (one, two, three, four, five, six) refl
 
 made : (text : List ℕ) → VersionOf text → (file : LogFile) × IsLogFile text file
-unfolding print
+unfolding hashed_text
 made text (a, a_is, (uuid, b, b_is, uuid_well, (origin, c, c_is, origin_well, (d, d_is, (fields, e, e_is, unbroken, named, (records, hash, f_is, records_well, hash_well)))))) =
     let file : LogFile = record { uuid = uuid; origin = origin; fields = fields; records = records; hash = hash } in
     let well : IsWell file = record { uuid = uuid_well; origin = origin_well; names = unbroken; fields = named; records = records_well; hash = hash_well } in
     let printed = printed_by text _ a _ b _ c _ d _ e _ a_is b_is c_is d_is e_is f_is in
-    (file, record { printed = printed; well = well })
+    let whole = in_front (directive (codes "version") (codes "cdni/1.0")) (directive (codes "UUID") (urn uuid)) (directive (codes "claimed-origin") origin) (directive (codes "record-type") (codes "cdni_http_request_v1"))
+    (directive (codes "fields") (names_text fields)) (flat_map record_line records) (hash_line hash) in
+    (file, record { printed = printed ∙ sym whole; well = well })
 
 pub to_file : (text : List ℕ) → walk place.Version (lines_of text) ≡ Some place.End → (file : LogFile) × IsLogFile text file
 to_file text is = made text (subst VersionOf (joined text) (to_version (lines_of text) is))

@@ -16,7 +16,7 @@ use Rattle.cdni_log.specs.declared.row.Row.{Row}
 use Rattle.cdni_log.specs.File.{fields_text, file_text, file_uuid, form_text, identity_text, with_hash}
 use Rattle.cdni_log.specs.Line.{directive}
 use Rattle.cdni_log.specs.Row.{record_text, values_from}
-use Rattle.log_audit.specs.LogFile.{hash_line, is_hash, is_lower_digit, names_text, print, record_line, urn, IsLogFile}
+use Rattle.log_audit.specs.LogFile.{hash_line, is_hash, is_lower_digit, names_text, hashed_text, print, record_line, true_hash, urn, IsLogFile}
 use Rattle.log_audit.specs.Value.{is_record, is_unbroken}
 use Rattle.log_audit.specs.Written.{file_of, HaveForms}
 use Rattle.log_audit.proofs.UuidLemmas.{not_feed, uuid_well}
@@ -76,17 +76,24 @@ records_well : (fields : List Field) (rows : List Row) → AllByRecursion (λ ro
 records_well fields [] all = tt
 records_well fields (row ∷ rows) all = (all.0, records_well fields rows all.1)
 
-in_line : (version uuid origin kind names records hash : List ℕ) → ((version ++ uuid ++ origin) ++ (kind ++ names) ++ records) ++ hash ≡ version ++ (uuid ++ (origin ++ (kind ++ (names ++ (records ++ hash)))))
-in_line version uuid origin kind names records hash = simp append_assoc
+in_line : (version uuid origin kind names records : List ℕ) → (version ++ uuid ++ origin) ++ (kind ++ names) ++ records ≡ version ++ (uuid ++ (origin ++ (kind ++ (names ++ records))))
+in_line version uuid origin kind names records = simp append_assoc
+
+-- what the hash of a file that is written is taken of
+hashed_is : (head : FileHead) (rows : List Row) → identity_text head ++ form_text head.fields ++ flat_map (record_text head.fields) rows ≡ hashed_text (file_of head rows)
+unfolding identity_text fields_text hashed_text
+hashed_is head rows =
+    in_line (directive (codes "version") (codes "cdni/1.0")) (directive (codes "UUID") (urn (hyphenated_text lower (file_uuid head)))) (directive (codes "claimed-origin") head.origin)
+    (directive (codes "record-type") (codes "cdni_http_request_v1")) (directive (codes "fields") (names_text head.fields)) (flat_map (record_text head.fields) rows)
+    ∙ ap (λ t. directive (codes "version") (codes "cdni/1.0") ++ (directive (codes "UUID") (urn (hyphenated_text lower (file_uuid head))) ++ (directive (codes "claimed-origin") head.origin
+    ++ (directive (codes "record-type") (codes "cdni_http_request_v1") ++ (directive (codes "fields") (names_text head.fields) ++ t))))) (records_same head.fields rows)
 
 printed_is : (head : FileHead) (rows : List Row) → file_text head rows ≡ print (file_of head rows)
-unfolding file_text with_hash identity_text fields_text print
-printed_is head rows =
-    let hash = hash_line (encode_lower (sha256 (identity_text head ++ form_text head.fields ++ flat_map (record_text head.fields) rows))) in
-    in_line (directive (codes "version") (codes "cdni/1.0")) (directive (codes "UUID") (urn (hyphenated_text lower (file_uuid head)))) (directive (codes "claimed-origin") head.origin)
-    (directive (codes "record-type") (codes "cdni_http_request_v1")) (directive (codes "fields") (names_text head.fields)) (flat_map (record_text head.fields) rows) hash
-    ∙ ap (λ t. directive (codes "version") (codes "cdni/1.0") ++ (directive (codes "UUID") (urn (hyphenated_text lower (file_uuid head))) ++ (directive (codes "claimed-origin") head.origin
-    ++ (directive (codes "record-type") (codes "cdni_http_request_v1") ++ (directive (codes "fields") (names_text head.fields) ++ (t ++ hash)))))) (records_same head.fields rows)
+unfolding file_text with_hash
+printed_is head rows = ap (λ t. t ++ hash_line (file_of head rows).hash) (hashed_is head rows)
+
+pub written_hash : (head : FileHead) (rows : List Row) → (file_of head rows).hash ≡ true_hash (file_of head rows)
+written_hash head rows = ap (λ t. encode_lower (sha256 t)) (hashed_is head rows)
 
 pub written : (head : FileHead) (rows : List Row) → HaveForms head rows → IsLogFile (file_text head rows) (file_of head rows)
 written head rows forms = record {

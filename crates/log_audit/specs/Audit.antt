@@ -1,16 +1,19 @@
 -- What is said of a text that is checked as a log file.
-use Rattle.std.specs.Prelude.{◌≡◌, ◌≢◌, ◌<◌, ◌≤◌, ℕ, List, codes, bytes_eq, decimal, length, map, slice_get, Ok, Err, Some}
+use Rattle.std.specs.Prelude.{◌≡◌, ◌≢◌, ◌<◌, ◌≤◌, ℕ, List, codes, bytes_eq, decimal, length, map, slice_get, Ok, Err, None, Some, true, false, [], ◌∷◌, ⊤}
 use Rattle.std.specs.List.{AllZip, count_by, sum}
 use Rattle.std.specs.Option.{option_map_or}
 use Rattle.std.specs.declared.result.Result.{Result}
 use Rattle.cdni_log.specs.Columns.{HasAt}
 use Rattle.cdni_log.specs.Field.{field_name}
 use Rattle.cdni_log.specs.Line.{tabbed}
-use Rattle.log_audit.specs.declared.audit.AuditFault.{AuditFault}
-use Rattle.log_audit.specs.declared.audit.AuditFault.TheVariants.{TooLong, BadLine, BadHash, Memory}
+use Rattle.log_audit.specs.declared.fault.AuditFault.{AuditFault}
+use Rattle.log_audit.specs.declared.fault.AuditFault.TheVariants.{TooLong, BadLine, BadHash, Memory}
 use Rattle.log_audit.specs.declared.audited.Audited.{Audited}
-use Rattle.log_audit.specs.Lines.{bad_line}
-use Rattle.log_audit.specs.LogFile.{true_hash, LogFile, IsLogFile}
+use Rattle.cdni_log.specs.declared.field.Field.{Field}
+use Rattle.std.specs.declared.option.Option.{Option}
+use Rattle.log_audit.specs.declared.place.Place.TheVariants as place
+use Rattle.log_audit.specs.Lines.{bad_from, bad_line, is_directive, is_record_line, lines_of}
+use Rattle.log_audit.specs.LogFile.{hash_line, is_hash, true_hash, LogFile, IsLogFile}
 
 -- at most 256 MiB
 abbrev pub IsWithin : List ℕ → Type 0
@@ -44,24 +47,34 @@ pub record IsCount (names : List (List ℕ)) (records : List (List (List ℕ))) 
 abbrev pub names_of : LogFile → List (List ℕ)
 names_of file = map field_name file.fields
 
--- what is told of a log file: its fields, the line of each record, the sums of the bytes that were sent and how many
--- records say that the content was kept
-pub record IsAudited (file : LogFile) (audited : Audited) : Type 0 where
-  pub fields : audited.fields ≡ file.fields
-  pub records : audited.records ≡ map tabbed file.records
+-- the sums that are told of a log file: of the bytes that were sent, and how many records say that the content was kept
+pub record HasSums (file : LogFile) (audited : Audited) : Type 0 where
   pub total : IsSum (names_of file) file.records (codes "sc-total-bytes") audited.total
   pub entity : IsSum (names_of file) file.records (codes "sc-entity-bytes") audited.entity
   pub cached : IsCount (names_of file) file.records (codes "s-cached") (codes "1") audited.cached
 
--- the answer for a text
-abbrev pub Answers : List ℕ → Result Audited AuditFault → Type 0
-Answers text (Ok audited) = IsWithin text × (file : LogFile) × IsLogFile text file
-    × (file.hash ≡ true_hash file) × IsAudited file audited
-Answers text (Err (TooLong len)) = (len ≡ length text) × (268435456 < length text)
-Answers text (Err (BadLine line)) = IsWithin text × (bad_line text ≡ Some line)
-Answers text (Err (BadHash written found)) = IsWithin text × (file : LogFile) × IsLogFile text file
+-- what is told of the file but its sums: its fields, and the line of each record without its end
+abbrev pub IsRead : LogFile → Audited → Type 0
+IsRead file audited = (audited.fields ≡ file.fields) × (audited.records ≡ map tabbed file.records)
+
+-- the text is a log file with its own hash, and this is read of it
+abbrev pub ReadsFile : List ℕ → Audited → Type 0
+ReadsFile text audited = IsWithin text × (file : LogFile) × IsLogFile text file × (file.hash ≡ true_hash file)
+    × IsRead file audited
+
+-- another hash is written than was found, or memory was wanted
+abbrev pub IsHashFault : List ℕ → List ℕ → AuditFault → Type 0
+IsHashFault hash true_one (BadHash written found) = (written ≡ hash) × (found ≡ true_one) × (written ≢ found)
+IsHashFault hash true_one Memory = ⊤
+IsHashFault hash true_one other = ⊥
+
+-- the fault of a text that is not accepted
+abbrev pub IsFaultOf : List ℕ → AuditFault → Type 0
+IsFaultOf text (TooLong len) = (len ≡ length text) × (268435456 < length text)
+IsFaultOf text (BadLine line) = IsWithin text × (bad_line text ≡ Some line)
+IsFaultOf text (BadHash written found) = IsWithin text × (file : LogFile) × IsLogFile text file
     × (written ≡ file.hash) × (found ≡ true_hash file) × (written ≢ found)
-Answers text (Err Memory) = IsWithin text
+IsFaultOf text Memory = IsWithin text
 
 -- the answer is this one, or memory was wanted
 abbrev pub IsOrMemory : Result Audited AuditFault → AuditFault → Type 0
@@ -74,3 +87,25 @@ abbrev pub IsAccepted : Result Audited AuditFault → Type 0
 IsAccepted (Ok audited) = ⊤
 IsAccepted (Err Memory) = ⊤
 IsAccepted (Err other) = ⊥
+
+-- ---- parts of the check
+
+-- a bad line is the fault, and it is this one; or memory was wanted
+abbrev pub IsBad : Option ℕ → AuditFault → Type 0
+IsBad bad (BadLine n) = bad ≡ Some n
+IsBad bad Memory = ⊤
+IsBad bad other = ⊥
+
+-- the hash that stands in the line, where it is the line of one
+abbrev pub IsHashIn : List ℕ → Option (List ℕ) → Type 0
+IsHashIn line None = is_directive (codes "SHA256-hash") is_hash line ≡ false
+IsHashIn line (Some hash) = (line ≡ hash_line hash) × (is_hash hash ≡ true)
+
+-- the line that is no record, or the one behind it, is bad
+abbrev pub IsBadLast : ℕ → List ℕ → List ℕ → AuditFault → Type 0
+IsBadLast number line rest fault = (fields : List Field) → is_record_line fields line ≡ false
+    → IsBad (bad_from number (place.Records fields) (line ∷ lines_of rest)) fault
+
+-- the line is that of this hash, and nothing follows
+abbrev pub IsLast : List ℕ → List ℕ → List ℕ → Type 0
+IsLast line rest hash = (line ≡ hash_line hash) × (is_hash hash ≡ true) × (rest ≡ [])

@@ -2,6 +2,6 @@ pub mod Audit
 pub mod Forms
 pub mod Lines
 pub mod LogFile
-pub mod Print
+pub mod Totals
 pub mod Value
 pub mod Written

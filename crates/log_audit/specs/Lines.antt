@@ -1,14 +1,14 @@
 -- The first line that no log file has.
-use Rattle.std.specs.Prelude.{◌≡◌, ◌≤◌, ◌⊎◌, ℕ, ◌+◌, ◌-◌, Bool, true, false, List, [], ◌∷◌, ◌++◌, bytes_eq, codes, length, slice_range, take, None, Some, ◌==◌, ◌&&◌, if◌then◌else◌}
+use Rattle.std.specs.Prelude.{◌≡◌, ◌<◌, ◌≤◌, ◌⊎◌, ℕ, ◌+◌, ◌-◌, Bool, true, false, List, [], ◌∷◌, ◌++◌, bytes_eq, codes, length, map, slice_range, take, None, Some, ◌==◌, ◌&&◌, if◌then◌else◌}
 use Rattle.std.specs.List.{concat, count_by, slice_split}
 use Rattle.std.specs.Option.{option_map_or}
 use Rattle.std.specs.declared.option.Option.{Option}
-use Rattle.cdni_log.specs.FieldList.{fields_of}
-use Rattle.cdni_log.specs.Line.{directive}
+use Rattle.cdni_log.specs.FieldList.{fields_of, names_in}
+use Rattle.cdni_log.specs.Line.{directive, line_end}
 use Rattle.cdni_log.specs.declared.field.Field.{Field}
 use Rattle.log_audit.specs.declared.place.Place.{Place}
 use Rattle.log_audit.specs.declared.place.Place.TheVariants as place
-use Rattle.log_audit.specs.LogFile.{is_hash, is_origin, is_uuid, names_text, record_line, urn, LogFile, IsLogFile}
+use Rattle.log_audit.specs.LogFile.{hash_line, is_hash, is_origin, is_uuid, names_text, record_line, urn, LogFile, IsLogFile}
 use Rattle.log_audit.specs.Value.{is_record, is_unbroken}
 
 -- the line with one byte more in front, or a line of this byte where there is none
@@ -77,6 +77,70 @@ bad_from number at (line ∷ lines) =
 -- the same of a text, whose lines are counted from 1
 abbrev pub bad_line : List ℕ → Option ℕ
 bad_line text = bad_from 1 place.Version (lines_of text)
+
+-- ---- parts of lines
+
+-- the line is cut off from the text, and this is left
+abbrev pub IsCutOff : List ℕ → List ℕ → List ℕ → Type 0
+IsCutOff text line rest = (lines_of text ≡ line ∷ lines_of rest) × (length rest < length text)
+
+-- what stands between these two pieces of the line, where it has them at its ends
+abbrev pub IsFramed : List ℕ → List ℕ → List ℕ → Option (List ℕ) → Type 0
+IsFramed front back line None = (middle : List ℕ) → line ≡ front ++ (middle ++ back) → ⊥
+IsFramed front back line (Some middle) = line ≡ front ++ (middle ++ back)
+
+-- the values between which tabs stand, where there is a text
+abbrev pub parts_in : Option (List ℕ) → List (List ℕ)
+parts_in text = names_in 9 text
+
+-- the values in the line, joined by tabs, where it is the line of a record
+abbrev pub IsRecordIn : List Field → List ℕ → Option (List ℕ) → Type 0
+IsRecordIn fields line None = is_record_line fields line ≡ false
+IsRecordIn fields line (Some values) = (is_record_line fields line ≡ true) × (line ≡ values ++ line_end)
+
+-- the places of the four lines before that of the fields
+abbrev pub is_fixed : Place → Bool
+is_fixed place.Version = true
+is_fixed place.Uuid = true
+is_fixed place.Origin = true
+is_fixed place.Kind = true
+is_fixed other = false
+
+-- the place behind one of these
+abbrev pub after_of : Place → Place
+after_of place.Version = place.Uuid
+after_of place.Uuid = place.Origin
+after_of place.Origin = place.Kind
+after_of place.Kind = place.Fields
+after_of other = place.End
+
+-- what follows the first line, which may stand at this place and before this one; or the text has none that may
+abbrev pub Passes : Place → Place → List ℕ → Option (List ℕ) → Type 0
+Passes at after text None = (n : ℕ) → bad_from n at (lines_of text) ≡ Some n
+Passes at after text (Some rest) =
+    (line : List ℕ) × (lines_of text ≡ line ∷ lines_of rest) × (next at line ≡ Some after)
+
+-- behind n - 1 lines, each of which may stand at its place, this is left, of which the first line stands at that place
+pub record Reaches (text : List ℕ) (n : ℕ) (at : Place) (rest : List ℕ) : Type 0 where
+  pub bad : bad_line text ≡ bad_from n at (lines_of rest)
+  pub front : List (List ℕ)
+  pub lines : lines_of text ≡ front ++ lines_of rest
+  pub count : length front + 1 ≡ n
+
+-- a head whose last line names these fields, and behind which this is left
+pub record IsHead (text : List ℕ) (fields : List Field) (rest : List ℕ) : Type 0 where
+  pub before : List (List ℕ)
+  pub line : List ℕ
+  pub lines : lines_of text ≡ before ++ line ∷ lines_of rest
+  pub count : length before ≡ 4
+  pub named : next place.Fields line ≡ Some (place.Records fields)
+  pub bad : bad_line text ≡ bad_from 6 (place.Records fields) (lines_of rest)
+
+-- the lines of records and that of a hash, and no bad line
+pub record IsBody (fields : List Field) (text : List ℕ) (records : List (List ℕ)) (hash : List ℕ) : Type 0 where
+  pub lines : lines_of text ≡ map (λ values. values ++ line_end) records ++ hash_line hash ∷ []
+  pub form : is_hash hash ≡ true
+  pub good : bad_from 6 (place.Records fields) (lines_of text) ≡ None
 
 -- ---- what it is to be
 

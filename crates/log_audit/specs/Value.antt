@@ -1,6 +1,6 @@
 -- The forms of the values of a record (RFC 7937, section 3.4.1).
 use Rattle.std.specs.Prelude.{ℕ, ◌+◌, ◌-◌, ◌*◌, ◌^◌, Bool, true, false, not, List, [], ◌∷◌, ◌++◌, bytes_eq, codes, drop, length, slice_range, take, None, Some, is_some, ◌==◌, ◌&&◌, ◌||◌, nat_lt, nat_le, if◌then◌else◌, slice_index}
-use Rattle.std.specs.Char.{is_ascii_digit, is_ascii_uppercase}
+use Rattle.std.specs.Char.{is_ascii_digit, to_ascii_lowercase}
 use Rattle.std.specs.List.{fold, list_all, prefix_len}
 use Rattle.std.specs.Option.{option_map_or}
 use Rattle.std.specs.declared.option.Option.{Option}
@@ -92,7 +92,7 @@ is_port_part (byte ∷ digits) = byte == 58 && option_map_or is_port (number_of 
 
 -- a host of so many bytes in lower case, and a port where it is not 80
 abbrev pub is_authority_at : ℕ → List ℕ → Bool
-is_authority_at n text = nat_lt 0 n && list_all (λ byte. not (is_ascii_uppercase byte)) (take n text)
+is_authority_at n text = nat_lt 0 n && list_all (λ byte. to_ascii_lowercase byte == byte) (take n text)
     && is_port_part (drop n text)
 
 abbrev pub is_authority : List ℕ → Bool
@@ -110,7 +110,7 @@ authority_length text = prefix_len (λ byte. not (byte == 47)) text
 -- what follows the scheme in a URL: the path begins with `/`
 abbrev pub is_behind_scheme : List ℕ → Bool
 is_behind_scheme text = is_authority (take (authority_length text) text)
-    && nat_lt (authority_length text) (length text) && are_taken (drop (authority_length text) text)
+    && slice_index text (authority_length text) == 47 && are_taken (drop (authority_length text) text)
 
 -- an absolute URL as it is written: scheme and host in lower case, no port of 80, and a path
 unfoldable pub is_url : List ℕ → Bool
@@ -120,11 +120,20 @@ is_url text = option_map_or is_behind_scheme (behind_scheme text) false
 unfoldable pub is_status : List ℕ → Bool
 is_status text = are_three_digits text && nat_le 49 (slice_index text 0)
 
--- a text in quotes with each `"` in it doubled, or `-`
-unfoldable pub is_optional : List ℕ → Bool
-is_optional text = bytes_eq text (codes "-") || (nat_le 2 (length text)
+-- whether a `"` waits for its second after this byte, where the byte may stand there
+abbrev pub waits_after : Bool → ℕ → Option Bool
+waits_after true byte = if byte == 34 then Some false else None
+waits_after false byte = Some (byte == 34)
+
+-- a text in quotes with each `"` in it doubled
+abbrev pub is_quoted : List ℕ → Bool
+is_quoted text = nat_le 2 (length text)
     && bytes_eq (take 1 text) (codes "\"") && bytes_eq (drop (length text - 1) text) (codes "\"")
-    && is_some (undoubled false (slice_range text 1 (length text - 1))))
+    && is_some (undoubled false (slice_range text 1 (length text - 1)))
+
+-- the same, or `-`
+unfoldable pub is_optional : List ℕ → Bool
+is_optional text = bytes_eq text (codes "-") || is_quoted text
 
 -- the form of a value of this field
 unfoldable pub has_form : Field → List ℕ → Bool
@@ -168,6 +177,23 @@ uris columns values = []
 abbrev pub are_one : List (List ℕ) → Bool
 are_one [] = true
 are_one (value ∷ values) = list_all (λ other. bytes_eq other value) values
+
+-- the value is the URL before it, where both are URLs
+abbrev pub agrees : Field → Option (List ℕ) → List ℕ → Bool
+agrees column None value = true
+agrees column (Some url) value = if is_uri column then bytes_eq value url else true
+
+-- the URL behind which the others stand
+abbrev pub url_after : Field → Option (List ℕ) → List ℕ → Option (List ℕ)
+url_after column url value = if is_uri column then Some value else url
+
+-- one value for each field, and each URL is the one before it
+abbrev pub goes_on : List Field → Option (List ℕ) → List (List ℕ) → Bool
+goes_on [] url [] = true
+goes_on [] url (value ∷ values) = false
+goes_on (column ∷ columns) url [] = false
+goes_on (column ∷ columns) url (value ∷ values) =
+    is_value column value && agrees column url value && goes_on columns (url_after column url value) values
 
 -- a record of these fields: one value for each, and one URL in both of its columns
 unfoldable pub is_record : List Field → List (List ℕ) → Bool

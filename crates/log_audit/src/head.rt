@@ -1,8 +1,19 @@
 //! The lines of a log file before its records (RFC 7937, section 3.3).
 
-use crate::audit::AuditFault;
+ghost use Rattle.std.specs.Prelude.{◌≡◌, ◌==◌, ◌&&◌, ◌++◌, Some, OnOk, IfErr, IfOk, IsTrue, MatchOption, [], bytes_eq, codes, map, not, option_map, if◌then◌else◌, true, None};
+ghost use Rattle.std.specs.List.{list_all, list_any};
+ghost use Rattle.cdni_log.specs.Field.{field_name};
+ghost use Rattle.cdni_log.specs.Line.{tabbed_behind};
+ghost use Rattle.log_audit.specs.Audit.{IsBad};
+ghost use Rattle.log_audit.specs.declared.place.Place.TheVariants as place;
+ghost use Rattle.log_audit.specs.LogFile.{are_uuid_bytes, is_lower_digit, is_origin, is_uuid, is_uuid_byte, names_text};
+ghost use Rattle.log_audit.specs.Lines.{after_of, is_directive, is_fixed, is_urn, next, then_to, bad_line, IsCutOff, IsHead, Passes, Reaches};
+ghost use Rattle.log_audit.specs.Value.{is_unbroken};
+
+use crate::fault::AuditFault;
 use crate::host::is_host;
-use crate::line::{TAB, first_line, framed};
+use crate::line::{TAB, first_line, framed, is};
+use crate::place::Place;
 use cdni_log::{Field, FieldList, FieldNameFault, read_fields};
 use std::alloc::{AllocError, Global};
 
@@ -15,11 +26,10 @@ pub(crate) struct Head<'a> {
 
 // the head of a log file, or its bad line
 pub(crate) fn read_head(alloc: Global, text: &[u8]) -> Result<Head<'_>, AuditFault>
+    ensures head { IfOk result (λ head. IsHead text.now head.fields head.rest.now) }
+    ensures bad { IfErr result (IsBad (bad_line text.now)) }
 {
     let text = behind_identity(text)?;
-    let Some(text) = behind_kind(text) else {
-        return Err(AuditFault::BadLine { line: 4 });
-    };
     let Some((line, rest)) = cut_line(text) else {
         return Err(AuditFault::BadLine { line: 5 });
     };
@@ -29,23 +39,29 @@ pub(crate) fn read_head(alloc: Global, text: &[u8]) -> Result<Head<'_>, AuditFau
     }
 }
 
-// what follows the three lines that say which file it is, or the bad one of them
+// what follows the four lines before that of the fields, or the bad one of them
 fn behind_identity(text: &[u8]) -> Result<&[u8], AuditFault>
+    ensures rest { IfOk result (λ rest. Reaches text.now 5 place.Fields rest.now) }
+    ensures bad { IfErr result (IsBad (bad_line text.now)) }
 {
-    let Some(text) = behind_version(text) else {
+    let Some(text) = behind(&Place::Version, text) else {
         return Err(AuditFault::BadLine { line: 1 });
     };
-    let Some(text) = behind_uuid(text) else {
+    let Some(text) = behind(&Place::Uuid, text) else {
         return Err(AuditFault::BadLine { line: 2 });
     };
-    match behind_origin(text) {
-        Some(text) => Ok(text),
-        None => Err(AuditFault::BadLine { line: 3 }),
-    }
+    let Some(text) = behind(&Place::Origin, text) else {
+        return Err(AuditFault::BadLine { line: 3 });
+    };
+    let Some(text) = behind(&Place::Kind, text) else {
+        return Err(AuditFault::BadLine { line: 4 });
+    };
+    Ok(text)
 }
 
 // the first line and what follows it, where there is a line
 fn cut_line(text: &[u8]) -> Option<(&[u8], &[u8])>
+    ensures { MatchOption result (text.now ≡ []) (λ parts. IsCutOff text.now parts.0.now parts.1.now) }
 {
     if text.is_empty() {
         None
@@ -54,60 +70,90 @@ fn cut_line(text: &[u8]) -> Option<(&[u8], &[u8])>
     }
 }
 
-// what follows the line of the version
-fn behind_version(text: &[u8]) -> Option<&[u8]>
+// what follows the line at this place, where it may stand there
+fn behind<'a>(place: &Place, text: &'a [u8]) -> Option<&'a [u8]>
+    requires { IsTrue (is_fixed place.now) }
+    ensures { Passes place.now (after_of place.now) text.now (option_map (λ rest. rest.now) result) }
 {
-    let (line, rest) = cut_line(text)?;
-    if is_version_line(line) { Some(rest) } else { None }
-}
-
-// what follows the line of the UUID
-fn behind_uuid(text: &[u8]) -> Option<&[u8]>
-{
-    let (line, rest) = cut_line(text)?;
-    if is_uuid_line(line) { Some(rest) } else { None }
-}
-
-// what follows the line of the origin
-fn behind_origin(text: &[u8]) -> Option<&[u8]>
-{
-    let (line, rest) = cut_line(text)?;
-    if is_origin_line(line) { Some(rest) } else { None }
-}
-
-// what follows the line of the record's type
-fn behind_kind(text: &[u8]) -> Option<&[u8]>
-{
-    let (line, rest) = cut_line(text)?;
-    if is_kind_line(line) { Some(rest) } else { None }
-}
-
-fn is_version_line(line: &[u8]) -> bool
-{
-    line == b"#version:\tcdni/1.0\r\n".as_slice()
-}
-
-fn is_kind_line(line: &[u8]) -> bool
-{
-    line == b"#record-type:\tcdni_http_request_v1\r\n".as_slice()
-}
-
-fn is_uuid_line(line: &[u8]) -> bool
-{
-    match framed(b"#UUID:\t\"urn:uuid:", line) {
-        Some(value) if value.len() == 37 && value[36] == b'"' => is_uuid(&value[..36]),
-        _ => false,
+    let Some((line, rest)) = cut_line(text) else {
+        return None;
+    };
+    if stands(place, line) {
+        Some(rest)
+    } else {
+        None
     }
 }
 
-fn is_uuid(text: &[u8]) -> bool
+// whether the line may stand at this place, which is one of the four before the fields
+fn stands(place: &Place, line: &[u8]) -> bool
+    requires { IsTrue (is_fixed place.now) }
+    ensures { next place.now line.now ≡ then_to (after_of place.now) result }
 {
-    text.len() == 36 && are_uuid_bytes(text) && text[14] == b'5' && b"89ab".contains(&text[19])
+    match place {
+        Place::Version => is_version_line(line),
+        Place::Uuid => is_uuid_line(line),
+        Place::Origin => is_origin_line(line),
+        Place::Kind => is_kind_line(line),
+        Place::Fields => false,
+        Place::Records(_) => false,
+        Place::End => false,
+    }
+}
+
+fn is_version_line(line: &[u8]) -> bool
+    ensures { result ≡ bytes_eq line.now (codes "#version:\tcdni/1.0\r\n") }
+{
+    is(line, b"#version:\tcdni/1.0\r\n")
+}
+
+fn is_kind_line(line: &[u8]) -> bool
+    ensures { result ≡ bytes_eq line.now (codes "#record-type:\tcdni_http_request_v1\r\n") }
+{
+    is(line, b"#record-type:\tcdni_http_request_v1\r\n")
+}
+
+fn is_uuid_line(line: &[u8]) -> bool
+    ensures { result ≡ is_directive (codes "UUID") is_urn line.now }
+{
+    match framed(b"#UUID:\t", b"\r\n", line) {
+        Some(value) => is_urn(value),
+        None => false,
+    }
+}
+
+// whether the value is the URN of a UUID in quotes
+fn is_urn(value: &[u8]) -> bool
+    ensures { result ≡ is_urn value.now }
+{
+    match framed(b"\"urn:uuid:", b"\"", value) {
+        Some(text) => is_uuid(text),
+        None => false,
+    }
+}
+
+#[tactic(auto, unfolding(crate::specs::LogFile::is_uuid))]
+fn is_uuid(text: &[u8]) -> bool
+    ensures { result ≡ is_uuid text.now }
+{
+    is_unbroken(text)
+        && text.len() == 36
+        && are_uuid_bytes(text)
+        && text[14] == b'5'
+        && is_variant(text[19])
+}
+
+// the digit of the variant
+fn is_variant(digit: u8) -> bool
+    ensures { result ≡ list_any (λ variant. digit == variant) (codes "89ab") }
+{
+    b"89ab".contains(&digit)
 }
 
 fn are_uuid_bytes(text: &[u8]) -> bool
+    ensures { result ≡ are_uuid_bytes 0 text.now }
 {
-    for (place, byte) in text.iter().enumerate() {
+    'bytes: for (place, byte) in text.iter().enumerate() {
         if !is_uuid_byte(place, *byte) {
             return false;
         }
@@ -116,6 +162,7 @@ fn are_uuid_bytes(text: &[u8]) -> bool
 }
 
 fn is_uuid_byte(place: usize, byte: u8) -> bool
+    ensures { result ≡ is_uuid_byte place byte }
 {
     if place == 8 || place == 13 || place == 18 || place == 23 {
         byte == b'-'
@@ -126,22 +173,33 @@ fn is_uuid_byte(place: usize, byte: u8) -> bool
 
 // a hexadecimal digit in lower case
 pub(crate) fn is_lower_digit(byte: u8) -> bool
+    ensures { result ≡ is_lower_digit byte }
 {
     byte.is_ascii_digit() || (b'a' <= byte && byte <= b'f')
 }
 
 fn is_origin_line(line: &[u8]) -> bool
+    ensures { result ≡ is_directive (codes "claimed-origin") is_origin line.now }
 {
-    match framed(b"#claimed-origin:\t", line) {
-        Some(origin) => is_host(origin),
+    match framed(b"#claimed-origin:\t", b"\r\n", line) {
+        Some(origin) => is_origin(origin),
         None => false,
     }
 }
 
+// whether the text is the host that claims a file
+#[tactic(auto, unfolding(crate::specs::LogFile::is_origin))]
+fn is_origin(text: &[u8]) -> bool
+    ensures { result ≡ is_origin text.now }
+{
+    is_unbroken(text) && is_host(text)
+}
+
 // the fields that the line names, where it is a line of fields
 fn fields_in(alloc: Global, line: &[u8]) -> Result<Option<FieldList>, AllocError>
+    ensures { IfOk result (λ found. next place.Fields line.now ≡ option_map place.Records found) }
 {
-    let Some(names) = framed(b"#fields:\t", line) else {
+    let Some(names) = framed(b"#fields:\t", b"\r\n", line) else {
         return Ok(None);
     };
     if !is_unbroken(names) {
@@ -155,28 +213,56 @@ fn fields_in(alloc: Global, line: &[u8]) -> Result<Option<FieldList>, AllocError
 }
 
 // the fields, where these are their names as they are written
-fn as_written(alloc: Global, fields: FieldList, names: &[u8]) -> Result<Option<FieldList>, AllocError>
+fn as_written(
+    alloc: Global,
+    fields: FieldList,
+    names: &[u8],
+) -> Result<Option<FieldList>, AllocError>
+    ensures { IfOk result (λ found. found ≡ (if bytes_eq names.now (names_text fields) then Some fields else None)) }
 {
     let written = written_names(alloc, fields.as_slice())?;
-    if names == written.as_slice() { Ok(Some(fields)) } else { Ok(None) }
+    if is(names, &written) {
+        Ok(Some(fields))
+    } else {
+        Ok(None)
+    }
 }
 
 // the names of the fields, joined by tabs
 fn written_names(alloc: Global, fields: &[Field]) -> Result<Vec<u8>, AllocError>
+    ensures { IfOk result (λ names. names.items ≡ names_text fields.now) }
 {
     let mut out = Vec::new(alloc);
-    'fields: for (at, field) in fields.iter().enumerate() {
-        if at > 0 {
-            out.extend_from_slice(&[TAB])?;
-        }
-        let name = field.name(alloc)?;
-        out.extend_from_slice(name.bytes())?;
-    }
+    let Some((first, others)) = fields.split_first() else {
+        return Ok(out);
+    };
+    add_name(alloc, &mut out, first)?;
+    add_names_behind(alloc, &mut out, others)?;
     Ok(out)
 }
 
+// adds the names of the fields, each behind a tab
+fn add_names_behind(alloc: Global, out: &mut Vec<u8>, fields: &[Field]) -> Result<(), AllocError>
+    ensures { OnOk result (out.new.items ≡ out.old.items ++ tabbed_behind (map field_name fields.now)) }
+{
+    'fields: for field in fields {
+        out.extend_from_slice(&[TAB])?;
+        add_name(alloc, out, field)?;
+    }
+    Ok(())
+}
+
+// adds the name of the field
+fn add_name(alloc: Global, out: &mut Vec<u8>, field: &Field) -> Result<(), AllocError>
+    ensures { OnOk result (out.new.items ≡ out.old.items ++ field_name field.now) }
+{
+    let name = field.name(alloc)?;
+    out.extend_from_slice(name.bytes())
+}
+
 // whether there is neither CR nor LF
-fn is_unbroken(text: &[u8]) -> bool
+pub(crate) fn is_unbroken(text: &[u8]) -> bool
+    ensures { result ≡ is_unbroken text.now }
 {
     text.iter().all(|byte| *byte != 10 && *byte != 13)
 }

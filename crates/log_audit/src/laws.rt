@@ -7,7 +7,7 @@ ghost use Rattle.cdni_log.specs.declared.row.Row.{Row};
 ghost use Rattle.cdni_log.specs.declared.field.Field.{Field};
 ghost use Rattle.log_audit.specs.Forms.{IsValueOf};
 ghost use Rattle.log_audit.specs.Value.{has_form};
-ghost use Rattle.log_audit.specs.LogFile.{LogFile, IsLogFile};
+ghost use Rattle.log_audit.specs.LogFile.{true_hash, LogFile, IsLogFile};
 ghost use Rattle.log_audit.specs.Lines.{bad_line, IsBadLine};
 ghost use Rattle.log_audit.specs.Written.{file_of, HaveForms};
 
@@ -23,10 +23,11 @@ pub fn a_bad_line_is_the_first_that_nothing_mends()
 {}
 
 /// The text that is written of rows whose values have their forms is a log file, whose UUID and hash are those that are
-/// written.
+/// written, and the hash is that of its bytes.
 pub fn what_is_written_is_a_log_file()
     ensures { (head : FileHead) (rows : List Row) → HaveForms head rows
-        → IsLogFile (file_text head rows) (file_of head rows) }
+        → IsLogFile (file_text head rows) (file_of head rows)
+        × ((file_of head rows).hash ≡ true_hash (file_of head rows)) }
 {}
 
 /// Each value of a record is what the standards say: a date that exists, a time of day, seconds with three decimals,

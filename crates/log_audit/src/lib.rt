@@ -2,21 +2,22 @@
 //! first that no log file has, whether the hash is that of the bytes, and what the records sum to.
 #![tactic(auto)]
 
-mod audit;
 mod audited;
+mod check;
+mod fault;
 mod head;
 mod host;
 pub mod laws;
 mod line;
 mod moment;
 mod place;
-mod print;
 mod record;
 mod records;
 mod totals;
 mod url;
 mod value;
 
-pub use audit::{AuditFault, audit};
 pub use audited::Audited;
+pub use check::audit;
+pub use fault::AuditFault;
 pub use place::Place;

@@ -1,11 +1,9 @@
 //! Lines of a text.
 
-ghost use Rattle.std.specs.Prelude.{◌≡◌, ◌==◌, ◌<◌, ◌++◌, length, option_map, IfSome};
-ghost use Rattle.cdni_log.specs.Line.{line_end};
+ghost use Rattle.std.specs.Prelude.{◌≡◌, ◌+◌, ◌<◌, ◌≤◌, ◌∷◌, bytes_eq, drop, length, option_map, take, IfSome};
 ghost use Rattle.log_audit.specs.Lines.{IsCutOff, IsFramed, parts_in};
 
 use listing::cut_at;
-use memchr::memchr;
 
 // what stands between two values of a record
 pub(crate) const TAB: u8 = 9;
@@ -15,28 +13,41 @@ pub(crate) fn first_line(text: &[u8]) -> (&[u8], &[u8])
     requires { 0 < length text.now }
     ensures { IsCutOff text.now result.0.now result.1.now }
 {
-    match memchr(b'\n', text) {
-        Some(place) => (&text[..place + 1], &text[place + 1..]),
-        None => (text, &text[text.len()..]),
+    let end = end_of_line(text);
+    (&text[..end], &text[end..])
+}
+
+// how many bytes the first line has, with its LF
+fn end_of_line(text: &[u8]) -> usize
+    requires { 0 < length text.now }
+    ensures within { result ≤ length text.now }
+    ensures cut { IsCutOff text.now (take result text.now) (drop result text.now) }
+{
+    match cut_at(b'\n', text) {
+        Some((before, _)) => before.len() + 1,
+        None => text.len(),
     }
 }
 
-// what stands between this front and the end of the line, where the line is of this form
-pub(crate) fn framed<'a>(front: &[u8], line: &'a [u8]) -> Option<&'a [u8]>
-    ensures { IsFramed front.now line.now (option_map (λ middle. middle.now) result) }
+// what stands between these two pieces of the line, where it has them at its ends
+pub(crate) fn framed<'a>(front: &[u8], back: &[u8], line: &'a [u8]) -> Option<&'a [u8]>
+    requires { length front.now + length back.now ≤ 100 }
+    ensures { IsFramed front.now back.now line.now (option_map (λ middle. middle.now) result) }
 {
-    if line.len() < front.len() + 2 {
+    if line.len() < front.len() + back.len() {
         return None;
     }
-    let end = line.len() - 2;
-    if is(&line[..front.len()], front) && is(&line[end..], b"\r\n") {
-        Some(&line[front.len()..end])
-    } else {
-        None
+    let end = line.len() - back.len();
+    if !is(&line[..front.len()], front) {
+        return None;
     }
+    if !is(&line[end..], back) {
+        return None;
+    }
+    Some(&line[front.len()..end])
 }
 
-fn is(text: &[u8], other: &[u8]) -> bool
+pub(crate) fn is(text: &[u8], other: &[u8]) -> bool
     ensures { result ≡ bytes_eq text.now other.now }
 {
     text == other
@@ -50,30 +61,5 @@ pub(crate) fn first_value(values: &[u8]) -> (&[u8], Option<&[u8]>)
     match cut_at(TAB, values) {
         Some((value, others)) => (value, Some(others)),
         None => (values, None),
-    }
-}
-
-// the values from this place on, counted from 0, of those between which tabs stand
-pub(crate) fn values_from(place: usize, values: Option<&[u8]>) -> Option<&[u8]>
-    ensures { parts_in (option_map (λ bytes. bytes.now) result)
-        ≡ drop place (parts_in (option_map (λ bytes. bytes.now) values.entry)) }
-{
-    let Some(bytes) = values else {
-        return None;
-    };
-    if place == 0 {
-        return Some(bytes);
-    }
-    let (_, others) = first_value(bytes);
-    values_from(place - 1, others)
-}
-
-// the value at this place
-pub(crate) fn value_at(place: usize, values: &[u8]) -> Option<&[u8]>
-    ensures { option_map (λ value. value.now) result ≡ slice_get (parts_in (Some values.now)) place }
-{
-    match values_from(place, Some(values)) {
-        Some(values) => Some(first_value(values).0),
-        None => None,
     }
 }

@@ -1,7 +1,8 @@
 -- How the check of a log file ends.
-use Rattle.std.specs.Prelude.{◌≡◌, ◌≢◌, ◌⊎◌, ◌<◌, ◌≤◌, ℕ, List, [], ◌++◌, codes, decimal, length, None, Some, Ok, Err}
+use Rattle.std.specs.Prelude.{◌≡◌, ◌≢◌, ◌⊎◌, ◌<◌, ◌≤◌, ℕ, List, [], ◌++◌, codes, decimal, length, None}
 use Rattle.std.specs.Io.KnownBytes.{Appends, Consumes, IsAtEnd, Keeps}
 use Rattle.std.specs.declared.option.Option.{Option}
+use Rattle.audit_report.specs.Report.{report_text}
 use Rattle.edge_base.specs.Causes.{Rose}
 use Rattle.edge_base.specs.declared.status.Status.{Status}
 use Rattle.edge_base.specs.declared.status.Status.TheVariants as status
@@ -10,17 +11,20 @@ use Rattle.http_node.specs.declared.audit.AuditEnd.{AuditEnd}
 use Rattle.http_node.specs.declared.audit.AuditEnd.TheVariants as end
 use Rattle.http_node.specs.declared.audit.Input.{Input}
 use Rattle.http_node.specs.declared.audit.Input.TheVariants as input
-use Rattle.log_audit.specs.Audit.{Answers, IsWithin}
+use Rattle.log_audit.specs.Audit.{HasSums, IsFaultOf, IsWithin, ReadsFile}
 use Rattle.log_audit.specs.LogFile.{true_hash, LogFile, IsLogFile}
-use Rattle.log_audit.specs.Print.{printed_text}
-use Rattle.log_audit.specs.declared.audit.AuditFault.{AuditFault}
-use Rattle.log_audit.specs.declared.audit.AuditFault.TheVariants as fault
+use Rattle.log_audit.specs.declared.fault.AuditFault.{AuditFault}
+use Rattle.log_audit.specs.declared.fault.AuditFault.TheVariants as fault
 use Rattle.log_audit.specs.declared.audited.Audited.{Audited}
 use Rattle.replay_script.specs.Replay.{IsTold, AppendsPart}
 
 -- a log file within the limit, whose hash is that of its bytes
 abbrev pub IsAcceptable : List ℕ → Type 0
 IsAcceptable text = IsWithin text × (file : LogFile) × IsLogFile text file × (file.hash ≡ true_hash file)
+
+-- the text is accepted, and this is told of it
+abbrev pub IsToldOf : List ℕ → Audited → Type 0
+IsToldOf text audited = ReadsFile text audited × ((file : LogFile) → IsLogFile text file → HasSums file audited)
 
 -- the note of a text that is not accepted
 abbrev pub fault_note : AuditFault → List ℕ
@@ -33,7 +37,7 @@ fault_note fault.Memory = codes "want of memory\n"
 pub record IsRefused (text note : List ℕ) : Type 0 where
   pub fault : AuditFault
   pub cause : fault ≢ fault.Memory
-  pub answers : Answers text (Err fault)
+  pub fault_is : IsFaultOf text fault
   pub note_is : note ≡ fault_note fault
   pub unacceptable : IsAcceptable text → ⊥
 
@@ -53,11 +57,11 @@ note_of_end end.Memory = note_of status.Memory None
 
 -- what the end of the check of a text says of it and of the output
 abbrev pub EndsAt : List ℕ → Option (List ℕ) → Option (List ℕ) → AuditEnd → Type 0
-EndsAt text old new end.Done = (audited : Audited) × Answers text (Ok audited) × Appends old new (printed_text audited)
+EndsAt text old new end.Done = (audited : Audited) × IsToldOf text audited × Appends old new (report_text audited)
 EndsAt text old new (end.Refused note) = IsRefused text note × Keeps old new
 EndsAt text old new end.ReadFault = Keeps old new
-EndsAt text old new end.WriteFault = (audited : Audited) × Answers text (Ok audited)
-    × AppendsPart old new (printed_text audited)
+EndsAt text old new end.WriteFault = (audited : Audited) × IsToldOf text audited
+    × AppendsPart old new (report_text audited)
 EndsAt text old new end.Memory = Keeps old new
 
 -- the input was read to its end, where the file is accepted
@@ -101,8 +105,16 @@ pub record HasInputCause (before now : ℕ) (result : Input) : Type 0 where
 
 -- what is told of a log file was written, or a part of it, or nothing for want of memory
 abbrev pub IsEndOf : Audited → Option (List ℕ) → Option (List ℕ) → AuditEnd → Type 0
-IsEndOf audited old new end.Done = Appends old new (printed_text audited)
-IsEndOf audited old new end.WriteFault = AppendsPart old new (printed_text audited)
+IsEndOf audited old new end.Done = Appends old new (report_text audited)
+IsEndOf audited old new end.WriteFault = AppendsPart old new (report_text audited)
 IsEndOf audited old new end.Memory = Keeps old new
 IsEndOf audited old new end.ReadFault = ⊥
 IsEndOf audited old new (end.Refused note) = ⊥
+
+-- the text is refused for this fault, or memory was wanted
+abbrev pub IsRefusal : AuditFault → AuditEnd → Type 0
+IsRefusal wrong end.Memory = Unit {0}
+IsRefusal wrong (end.Refused note) = (wrong ≢ fault.Memory) × (note ≡ fault_note wrong)
+IsRefusal wrong end.Done = ⊥
+IsRefusal wrong end.ReadFault = ⊥
+IsRefusal wrong end.WriteFault = ⊥

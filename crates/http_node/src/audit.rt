@@ -4,11 +4,11 @@ ghost use Rattle.std.specs.Prelude.{◌≡◌, ◌≢◌, ◌≤◌, ◌<◌, �
 ghost use Rattle.std.specs.Io.KnownBytes.{Consumes, IsAtEnd};
 ghost use Rattle.edge_base.specs.Causes.{Rose};
 ghost use Rattle.http_node.specs.Audit.{fault_note, note_of_end, status_of, Audits, EndsAt, Ends, IsAcceptable, IsSettled};
-ghost use Rattle.http_node.specs.Audit.{HasInputCause, IsEndOf, ReadsInput};
+ghost use Rattle.http_node.specs.Audit.{HasInputCause, IsEndOf, IsRefusal, ReadsInput};
 ghost use Rattle.http_node.specs.Note.{IsNoted};
-ghost use Rattle.log_audit.specs.Audit.{Answers};
 
 use crate::note::{status_note, write_note};
+use audit_report::report_text;
 use edge_base::{Sink, Source, Status, write_counted};
 use http_wire::{BodyRead, Inbox, read_to_end};
 use itoa::Buffer;
@@ -132,7 +132,7 @@ fn write_audited<K: Sink>(alloc: Global, audited: &Audited, output: &mut K) -> A
     ensures write_well { result ≢ AuditEnd.WriteFault → K.faults output.new ≡ K.faults output.old }
     ensures write_later { K.faults output.old ≤ K.faults output.new }
 {
-    let Ok(text) = audited.text(alloc) else {
+    let Ok(text) = report_text(alloc, audited) else {
         return AuditEnd::Memory;
     };
     if write_counted(output, text.bytes()).fault {
@@ -143,8 +143,7 @@ fn write_audited<K: Sink>(alloc: Global, audited: &Audited, output: &mut K) -> A
 
 // a text that is not accepted for this fault, which may be want of memory
 fn refused(alloc: Global, fault: &AuditFault) -> AuditEnd
-    ensures { (result ≡ AuditEnd.Memory)
-        ⊎ ((fault.now ≢ AuditFault.Memory) × (result ≡ AuditEnd.Refused (fault_note fault.now))) }
+    ensures { IsRefusal fault.now result }
 {
     match fault_note(alloc, fault) {
         Ok(note) => AuditEnd::Refused { note },

@@ -6,7 +6,7 @@ import sys
 ROOT = pathlib.Path(__file__).resolve().parents[2]
 LINK = re.compile(r"!?\[[^\]]*\]\(([^)\s]+)\)")
 # A path in code: of the repository, or of a crate.
-PATH = re.compile(r"(?:bench|docs|crates)/[\w./-]+|\w+/(?:src|specs|proofs|must-fail)/[\w./-]+")
+PATH = re.compile(r"(?:bench|docs|crates)/[\w./-]+|\w+/(?:src|specs|proofs|must-fail|wrong-bodies)/[\w./-]+")
 
 
 def without_blocks(text):

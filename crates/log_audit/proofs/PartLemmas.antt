@@ -1,14 +1,12 @@
 -- The parts that are read are those of the file.
-use Rattle.std.proofs.Common.{◌≡◌, ℕ, ◌+◌, ◌-◌, ◌≤◌, true, List, [], ◌∷◌, ◌++◌, Option, None, Some, length, map, take, refl, ap, sym, ◌∙◌, codes, append-nil, arith, take_at}
+use Rattle.std.proofs.Common.{◌≡◌, ℕ, ◌-◌, true, List, [], ◌∷◌, ◌++◌, Option, Some, length, map, take, refl, ap, sym, ◌∙◌, codes, arith, take_at}
 use Rattle.std.proofs.lemmas.List.{length-append}
-use Rattle.std.proofs.lemmas.Option.{same_Some}
-use Rattle.std.specs.List.{concat}
 use Rattle.cdni_log.specs.declared.field.Field.{Field}
 use Rattle.cdni_log.specs.Line.{directive, line_end, tabbed}
 use Rattle.log_audit.specs.declared.place.Place.{Place}
 use Rattle.log_audit.specs.declared.place.Place.TheVariants as place
 use Rattle.log_audit.specs.LogFile.{hash_line, hashed_text, is_hash, names_text, record_line, LogFile, IsLogFile, IsWell}
-use Rattle.log_audit.specs.Lines.{bad_line, lines_of, next, IsBody, IsHead}
+use Rattle.log_audit.specs.Lines.{lines_of, next, IsBody, IsHead}
 use Rattle.log_audit.proofs.FileLemmas.{no_bad_line}
 use Rattle.log_audit.proofs.FrameLemmas.{frame_inside}
 use Rattle.log_audit.proofs.HeadLemmas.{hash_long}

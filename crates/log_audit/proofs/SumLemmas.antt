@@ -1,17 +1,16 @@
 -- The sums that are told of a file are those of the values below a name.
-use Rattle.std.proofs.Common.{◌≡◌, ℕ, ◌+◌, ◌≤◌, ◌==◌, ◌||◌, Bool, true, false, not, cond, List, [], ◌∷◌, ◌++◌, Option, None, Some, Ok, Err, Result, IfOk, IfErr, length, map, refl, suc, zero, ap, sym, subst, ◌∙◌, codes, decimal, is_some, arith}
+use Rattle.std.proofs.Common.{◌≡◌, ℕ, ◌+◌, ◌≤◌, ◌||◌, Bool, true, false, not, cond, List, [], ◌∷◌, Option, None, Some, Ok, Err, Result, IfOk, length, map, refl, suc, zero, ap, sym, subst, ◌∙◌, codes, decimal, is_some}
 use Rattle.std.proofs.lemmas.Bool.{and_parts, not-true, or_parts, false≢true}
 use Rattle.std.proofs.lemmas.List.Sums.{sum_by-cons}
 use Rattle.std.proofs.lemmas.Option.{none-some, same_Some}
 use Rattle.std.proofs.lemmas.Slice.Eq.{bytes_eq-Decides}
 use Rattle.std.specs.Prelude.{bytes_eq, slice_get}
-use Rattle.std.specs.List.{AllByRecursion, AllZip, count_by, list_any, sum, sum_by}
+use Rattle.std.specs.List.{AllByRecursion, list_any}
 use Rattle.std.specs.Option.{option_map_or, unwrap_or}
 use Rattle.listing.specs.Number.{number_of}
 use Rattle.listing.proofs.Decimals.{some_decimal}
 use Rattle.cdni_log.specs.declared.field.Field.{Field}
 use Rattle.cdni_log.specs.declared.field.Field.TheVariants as field
-use Rattle.cdni_log.specs.Columns.{HasAt}
 use Rattle.cdni_log.specs.Field.{field_name}
 use Rattle.cdni_log.specs.FieldList.{are_apart, is_same}
 use Rattle.cdni_log.specs.Line.{tabbed}

@@ -1,22 +1,21 @@
 -- The answer for a text.
-use Rattle.std.proofs.Common.{◌≡◌, ℕ, ◌-◌, ◌<◌, ◌≤◌, ◌↔◌, true, List, [], ◌∷◌, ◌++◌, Option, None, Some, Ok, Err, Result, IfOk, IfErr, length, map, take, refl, ap, sym, subst, ◌∙◌, codes, arith}
+use Rattle.std.proofs.Common.{◌≡◌, ℕ, ◌<◌, List, Some, Ok, Err, Result, IfOk, IfErr, length, refl, ap, sym, subst, ◌∙◌, arith}
 use Rattle.std.proofs.lemmas.Option.{none-some, same_Some}
 use Rattle.cdni_log.specs.declared.row.FileHead.{FileHead}
 use Rattle.cdni_log.specs.declared.row.Row.{Row}
 use Rattle.cdni_log.specs.File.{file_text}
-use Rattle.cdni_log.specs.Line.{directive, tabbed}
 use Rattle.hex.specs.Hex.{encode_lower}
 use Rattle.sha2.specs.Sha256.{sha256}
 use Rattle.log_audit.specs.declared.audited.Audited.{Audited}
 use Rattle.log_audit.specs.declared.fault.AuditFault.{AuditFault}
 use Rattle.log_audit.specs.declared.fault.AuditFault.TheVariants.{TooLong, BadLine, BadHash, Memory}
 use Rattle.log_audit.specs.Audit.{IsAccepted, IsFaultOf, IsHashFault, IsOrMemory, IsWithin, ReadsFile}
-use Rattle.log_audit.specs.Lines.{bad_line, lines_of, IsBadLine}
-use Rattle.log_audit.specs.LogFile.{hash_line, hashed_text, names_text, record_line, true_hash, LogFile, IsLogFile}
+use Rattle.log_audit.specs.Lines.{bad_line, IsBadLine}
+use Rattle.log_audit.specs.LogFile.{true_hash, LogFile, IsLogFile}
 use Rattle.log_audit.specs.Written.{file_of, HaveForms}
 use Rattle.log_audit.proofs.FileLemmas.{bad_line_is, no_bad_line}
 use Rattle.log_audit.proofs.PartLemmas.{hashed_is, last_same}
-use Rattle.log_audit.proofs.WholeLemmas.{file_lines, lines_are}
+use Rattle.log_audit.proofs.WholeLemmas.{lines_are}
 use Rattle.log_audit.proofs.WrittenLemmas.{written, written_hash}
 
 pub fault_is : (text hash found : List ℕ) (file : LogFile) (fault : AuditFault) → IsWithin text → IsLogFile text file → hash ≡ file.hash → found ≡ true_hash file → IsHashFault hash found fault → IsFaultOf text fault

@@ -1,5 +1,5 @@
 -- A value of each form is what the standards say.
-use Rattle.std.proofs.Common.{◌≡◌, ℕ, ◌+◌, ◌-◌, ◌<◌, ◌≤◌, ◌^◌, inl, inr, ⊎_elim, ◌==◌, ◌&&◌, true, false, List, ◌∷◌, ◌++◌, Option, None, Some, Ok, Err, Result, length, take, drop, refl, ap, sym, ◌∙◌, codes, decimal, is_some, take-append-drop, arith, position, get_or}
+use Rattle.std.proofs.Common.{◌≡◌, ℕ, ◌+◌, ◌-◌, ◌<◌, ◌≤◌, ◌^◌, inl, inr, ⊎_elim, ◌==◌, ◌&&◌, true, false, List, ◌∷◌, ◌++◌, Option, None, Some, length, take, drop, refl, ap, sym, ◌∙◌, codes, decimal, is_some, take-append-drop, arith, position, get_or}
 use Rattle.std.proofs.lemmas.Bool.{and_parts, eqb-true, leb-true, ltb-true, or_cases, false≢true}
 use Rattle.std.proofs.lemmas.List.{drop-drop, drop_more}
 use Rattle.std.proofs.lemmas.List.Quantifiers.{position-Some}
@@ -16,8 +16,8 @@ use Rattle.cdni_log.specs.Date.{clock_text, date_text, three_digits}
 use Rattle.cdni_log.specs.Line.{quoted}
 use Rattle.cdni_log.specs.declared.field.Field.{Field}
 use Rattle.cdni_log.specs.declared.field.Field.TheVariants as field
-use Rattle.log_audit.specs.Forms.{AreThreeDigits, IsDateText, IsGroupText, IsNumberText, IsOptionalText, IsSecondsText, IsTimeText, IsUrlText, IsValueOf}
-use Rattle.log_audit.specs.Value.{are_three_digits, date_in, digits_of, has_form, is_date, is_date_of_years, is_group, is_method, is_number, is_optional, is_seconds, is_status, is_time, is_url, second_in}
+use Rattle.log_audit.specs.Forms.{AreThreeDigits, IsDateText, IsGroupText, IsNumberText, IsOptionalText, IsSecondsText, IsTimeText, IsValueOf}
+use Rattle.log_audit.specs.Value.{are_three_digits, date_in, digits_of, has_form, is_date, is_date_of_years, is_group, is_method, is_number, is_optional, is_seconds, is_status, is_time, second_in}
 
 same_text : (a b : List ℕ) → bytes_eq a b ≡ true → a ≡ b
 same_text a b = (bytes_eq-Decides a b).0

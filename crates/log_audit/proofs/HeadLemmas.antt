@@ -1,18 +1,18 @@
 -- The head of a log file, line by line.
-use Rattle.std.proofs.Common.{◌≡◌, ℕ, ◌+◌, ◌-◌, ◌<◌, ◌≤◌, Bool, true, false, cond, List, [], ◌∷◌, ◌++◌, Option, None, Some, Ok, Err, IfOk, ◌==◌, length, map, refl, ap, sym, subst, ◌∙◌, codes, append_assoc, append-nil, arith, is_none, is_some}
+use Rattle.std.proofs.Common.{◌≡◌, ℕ, ◌+◌, ◌≤◌, Bool, true, false, cond, List, [], ◌∷◌, ◌++◌, Option, None, Some, Ok, Err, IfOk, ◌==◌, length, map, refl, ap, sym, subst, ◌∙◌, codes, append_assoc, arith}
 use Rattle.std.proofs.lemmas.Bool.{and_parts, eqb-true, false≢true}
 use Rattle.std.proofs.lemmas.List.{length-append}
-use Rattle.std.proofs.lemmas.Option.{none-some, same_Some}
+use Rattle.std.proofs.lemmas.Option.{same_Some}
 use Rattle.std.proofs.lemmas.Slice.Eq.{bytes_eq-Decides}
 use Rattle.std.specs.Prelude.{bytes_eq}
-use Rattle.std.specs.Option.{option_map, option_map_or}
+use Rattle.std.specs.Option.{option_map}
 use Rattle.cdni_log.specs.declared.field.Field.{Field}
 use Rattle.cdni_log.specs.FieldList.{fields_of}
 use Rattle.cdni_log.specs.Line.{directive, line_end}
 use Rattle.log_audit.specs.declared.place.Place.{Place}
 use Rattle.log_audit.specs.declared.place.Place.TheVariants as place
-use Rattle.log_audit.specs.LogFile.{hash_line, is_hash, is_origin, names_text, record_line}
-use Rattle.log_audit.specs.Lines.{after_of, bad_from, bad_line, is_directive, is_end, is_record_line, is_fixed, is_urn, lines_of, next, onto_line, then_to, IsBody, IsCutOff, IsHead, Passes, Reaches}
+use Rattle.log_audit.specs.LogFile.{hash_line, is_hash, is_origin, names_text}
+use Rattle.log_audit.specs.Lines.{after_of, bad_from, is_directive, is_end, is_record_line, is_fixed, is_urn, lines_of, next, onto_line, then_to, IsBody, IsCutOff, IsHead, Passes, Reaches}
 use Rattle.log_audit.specs.Value.{is_unbroken}
 use Rattle.std.specs.List.{concat}
 use Rattle.std.specs.declared.result.Result.{Result}

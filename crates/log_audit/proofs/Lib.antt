@@ -7,6 +7,7 @@ pub mod LineLemmas
 pub mod MomentLemmas
 pub mod PartLemmas
 pub mod PlaceLemmas
+pub mod SumLemmas
 pub mod UrlLemmas
 pub mod UuidLemmas
 pub mod ValueLemmas

@@ -1,14 +1,12 @@
 -- The parts that are read are those of the file.
-use Rattle.std.proofs.Common.{◌≡◌, ℕ, ◌+◌, ◌-◌, ◌≤◌, true, List, [], ◌∷◌, ◌++◌, Option, None, Some, length, map, take, refl, ap, sym, ◌∙◌, codes, append-nil, arith, take_at}
+use Rattle.std.proofs.Common.{◌≡◌, ℕ, ◌-◌, true, List, [], ◌∷◌, ◌++◌, Option, Some, length, map, take, refl, ap, sym, ◌∙◌, codes, arith, take_at}
 use Rattle.std.proofs.lemmas.List.{length-append}
-use Rattle.std.proofs.lemmas.Option.{same_Some}
-use Rattle.std.specs.List.{concat}
 use Rattle.cdni_log.specs.declared.field.Field.{Field}
 use Rattle.cdni_log.specs.Line.{directive, line_end, tabbed}
 use Rattle.log_audit.specs.declared.place.Place.{Place}
 use Rattle.log_audit.specs.declared.place.Place.TheVariants as place
-use Rattle.log_audit.specs.LogFile.{hash_line, hashed_text, is_hash, names_text, record_line, LogFile, IsLogFile}
-use Rattle.log_audit.specs.Lines.{bad_line, lines_of, next, IsBody, IsHead}
+use Rattle.log_audit.specs.LogFile.{hash_line, hashed_text, is_hash, names_text, record_line, LogFile, IsLogFile, IsWell}
+use Rattle.log_audit.specs.Lines.{lines_of, next, IsBody, IsHead}
 use Rattle.log_audit.proofs.FileLemmas.{no_bad_line}
 use Rattle.log_audit.proofs.FrameLemmas.{frame_inside}
 use Rattle.log_audit.proofs.HeadLemmas.{hash_long}
@@ -84,3 +82,11 @@ last_same file other e =
     let lines : record_lines file ≡ record_lines other = tail_same (tail_same (tail_same (tail_same (tail_same e)))) in
     let parts = same_lines file.records (map tabbed other.records) (hash_line file.hash) (hash_line other.hash) (lines ∙ ap (λ l. l ++ hash_line other.hash ∷ []) (ended_records other.records)) in
     same_hash file.hash other.hash parts.1
+
+-- two files of the same lines have the same fields and lines of records
+pub parts_same : (file other : LogFile) → IsWell file → IsWell other → file_lines file ≡ file_lines other → (file.fields ≡ other.fields) × (map tabbed file.records ≡ map tabbed other.records)
+parts_same file other well also e =
+    let from = tail_same (tail_same (tail_same (tail_same e))) in
+    let named = sym (stand_fields file.fields well.names well.fields) ∙ (ap (next place.Fields) (head_same from) ∙ stand_fields other.fields also.names also.fields) in
+    let lines = same_lines file.records (map tabbed other.records) (hash_line file.hash) (hash_line other.hash) (tail_same from ∙ ap (λ l. l ++ hash_line other.hash ∷ []) (ended_records other.records)) in
+    (same_fields file.fields other.fields named, sym lines.0)

@@ -12,12 +12,12 @@ use Rattle.std.specs.List.{All, AllByRecursion, list_all, slice_split}
 use Rattle.listing.specs.Word.{◌>>=◌, parts_at}
 use Rattle.cdni_log.specs.declared.field.Field.{Field}
 use Rattle.cdni_log.specs.declared.field.Field.TheVariants as field
-use Rattle.cdni_log.specs.FieldList.{are_fields, fields_of, named, names_in}
+use Rattle.cdni_log.specs.FieldList.{are_apart, are_fields, fields_of, named, names_in}
 use Rattle.cdni_log.specs.Line.{directive, line_end, tabbed}
 use Rattle.log_audit.specs.declared.place.Place.{Place}
 use Rattle.log_audit.specs.declared.place.Place.TheVariants as place
 use Rattle.log_audit.specs.LogFile.{hash_line, is_hash, is_origin, is_uuid, names_text, record_line, urn}
-use Rattle.log_audit.specs.Lines.{between, is_directive, is_record_line, is_urn, next, records_behind, then_to, values_in}
+use Rattle.log_audit.specs.Lines.{between, is_directive, is_record_line, is_urn, next, parts_in, records_behind, then_to, values_in}
 use Rattle.log_audit.specs.Value.{are_values, has_form, is_date, is_group, is_method, is_optional, is_plain, is_record, is_seconds, is_status, is_time, is_unbroken, is_url, is_value}
 use Rattle.log_audit.proofs.LineLemmas.{is_line}
 
@@ -341,3 +341,13 @@ pub some_fields : (text : List ℕ) (fields : List Field) → fields_of 9 text �
 unfolding are_fields
 some_fields text fields is =
     leb-true 1 (length fields) (and_parts (nat_le 1 (length fields)) _ (and_parts _ _ (and_parts _ _ (fields_well text fields is)).0).0).0
+
+pub fields_apart : (text : List ℕ) (fields : List Field) → fields_of 9 text ≡ Some fields → are_apart fields ≡ true
+unfolding are_fields
+fields_apart text fields is = (and_parts _ (are_apart fields) (fields_well text fields is)).1
+
+-- the values of a record are cut apart again
+pub tabbed_back : (fields : List Field) (values : List (List ℕ)) → 1 ≤ length fields → is_record fields values ≡ true → parts_in (Some (tabbed values)) ≡ values
+tabbed_back [] values some is = absurd (omega (arith, some))
+tabbed_back (column ∷ fields) [] some is = absurd (false≢true (record_values (column ∷ fields) [] is))
+tabbed_back (column ∷ fields) (value ∷ values) some is = split_tabbed value values (record_plain (column ∷ fields) (value ∷ values) (record_values (column ∷ fields) (value ∷ values) is))

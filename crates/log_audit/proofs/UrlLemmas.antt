@@ -1,5 +1,5 @@
 -- A URL as it is written.
-use Rattle.std.proofs.Common.{◌≡◌, ℕ, zero, suc, ltb, cond, ◌+◌, ◌<◌, ◌≤◌, ⊎_elim, ◌==◌, ◌&&◌, Bool, true, false, not, List, [], ◌∷◌, ◌++◌, Option, None, Some, length, take, drop, get_or, refl, ap, sym, subst, ◌∙◌, append-nil, append_assoc, codes, decimal, take-append-drop, arith}
+use Rattle.std.proofs.Common.{◌≡◌, ℕ, zero, suc, ltb, cond, ◌≤◌, ⊎_elim, ◌==◌, ◌&&◌, Bool, true, false, not, List, [], ◌∷◌, ◌++◌, Option, None, Some, length, take, drop, get_or, refl, ap, sym, subst, ◌∙◌, append-nil, append_assoc, codes, decimal, take-append-drop, arith}
 use Rattle.std.proofs.lemmas.Bool.{and_parts, and_from, cond-false, eqb-true, leb-true, ltb-true, not-true, false≢true}
 use Rattle.std.proofs.lemmas.Option.{none-some, same_Some}
 use Rattle.std.proofs.lemmas.Slice.Eq.{bytes_eq-Decides}
@@ -11,8 +11,8 @@ use Rattle.std.specs.Str.{str_to_ascii_lowercase}
 use Rattle.listing.specs.Number.{number_of}
 use Rattle.listing.proofs.Decimals.{some_decimal}
 use Rattle.targets.specs.Endpoint.{host_length}
-use Rattle.targets.specs.Grammar.{IsHost, IsPath, IsQuery, is_path_byte, is_query_byte}
-use Rattle.targets.specs.Target.{is_taken, port_text, query_text, scheme_text, url_of}
+use Rattle.targets.specs.Grammar.{IsPath, IsQuery, is_path_byte, is_query_byte}
+use Rattle.targets.specs.Target.{is_taken, port_text, query_text, scheme_text}
 use Rattle.targets.proofs.EndpointLemmas.{host_of_length}
 use Rattle.targets.proofs.RowLemmas.{parts_cases, path_is_query, taken-append, taken_in, taken_row}
 use Rattle.log_audit.specs.Forms.{IsUrlText}

@@ -1,10 +1,11 @@
 -- Sums over the lines of records.
-use Rattle.std.specs.Prelude.{ℕ, Bool, true, false, List, [], ◌∷◌, bytes_eq, codes, None, Some, if◌then◌else◌}
+use Rattle.std.specs.Prelude.{◌≡◌, ℕ, Bool, true, false, List, [], ◌∷◌, bytes_eq, codes, Some, if◌then◌else◌}
 use Rattle.std.specs.List.{count_by, sum_by}
 use Rattle.std.specs.Option.{unwrap_or}
 use Rattle.listing.specs.Number.{number_of}
 use Rattle.cdni_log.specs.declared.field.Field.{Field}
 use Rattle.cdni_log.specs.declared.field.Field.TheVariants as field
+use Rattle.log_audit.specs.declared.audited.Audited.{Audited}
 use Rattle.log_audit.specs.Lines.{parts_in}
 
 abbrev pub is_total : Field → Bool
@@ -47,3 +48,9 @@ is_one text = bytes_eq (codes "1") text
 -- how many lines have `1` below such a field
 abbrev pub ones_below : (Field → Bool) → List Field → List (List ℕ) → ℕ
 ones_below is_it fields lines = count_by (λ line. is_one (value_in is_it fields line)) lines
+
+-- the sums are those of these lines
+pub record AreSums (audited : Audited) : Type 0 where
+  pub total : audited.total ≡ sum_below is_total audited.fields audited.records
+  pub entity : audited.entity ≡ sum_below is_entity audited.fields audited.records
+  pub cached : audited.cached ≡ ones_below is_cached audited.fields audited.records

@@ -9,6 +9,7 @@ ghost use Rattle.sha2.specs.Sha256.{sha256};
 ghost use Rattle.log_audit.specs.Audit.{HasSums, IsFaultOf, IsHashFault, ReadsFile, IsAccepted, IsOrMemory, IsWithin};
 ghost use Rattle.log_audit.specs.Lines.{IsBadLine};
 ghost use Rattle.log_audit.specs.LogFile.{true_hash, LogFile, IsLogFile};
+ghost use Rattle.log_audit.specs.Totals.{AreSums};
 ghost use Rattle.log_audit.specs.Written.{HaveForms};
 ghost use Rattle.log_audit.specs.declared.fault.AuditFault.TheVariants.{TooLong, BadLine, BadHash};
 
@@ -62,6 +63,7 @@ pub fn audit(alloc: Global, bytes: &[u8]) -> Result<Audited, AuditFault>
 // the same without the laws
 fn checked(alloc: Global, bytes: &[u8]) -> Result<Audited, AuditFault>
     ensures read { IfOk result (ReadsFile bytes.now) }
+    ensures sums { IfOk result AreSums }
     ensures fault { IfErr result (IsFaultOf bytes.now) }
 {
     if bytes.len() > LENGTH_MAX {
@@ -98,6 +100,7 @@ fn check_hash(alloc: Global, bytes: &[u8], hash: &[u8]) -> Result<(), AuditFault
 fn told_of(fields: FieldList, records: TextList) -> Audited
     ensures fields { result.fields ≡ fields }
     ensures records { result.records ≡ records }
+    ensures sums { AreSums result }
 {
     let sums = sums_of(fields.as_slice(), records.as_slice());
     Audited {

@@ -1,5 +1,9 @@
 use Rattle.log_audit.proofs.AuditLemmas.{accepted_answer, bad_hash_answer, bad_line_answer, too_long_is, written_answer}
+use Rattle.log_audit.proofs.SumLemmas.{sums_answer}
 use Rattle.log_audit.proofs.check.audit.Goals as goal
+
+pub returns-clause-sums : goal.returns-clause-sums
+returns-clause-sums c = sums_answer c.args.bytes.now c.checked.result c.checked.ensures.read c.checked.ensures.sums
 
 pub returns-clause-too_long : goal.returns-clause-too_long
 returns-clause-too_long c = too_long_is c.args.bytes.now c.checked.result c.checked.ensures.read c.checked.ensures.fault

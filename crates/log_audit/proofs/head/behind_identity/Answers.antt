@@ -1,6 +1,5 @@
 use Rattle.std.proofs.Common.{◌∙◌}
 use Rattle.log_audit.specs.declared.place.Place.TheVariants as place
-use Rattle.log_audit.specs.Lines.{Reaches}
 use Rattle.log_audit.proofs.HeadLemmas.{reach_on, reach_start}
 use Rattle.log_audit.proofs.head.behind_identity.Goals as goal
 

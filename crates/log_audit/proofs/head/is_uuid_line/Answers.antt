@@ -1,6 +1,5 @@
 use Rattle.std.proofs.Common.{◌++◌, ◌∷◌, [], None, Some, sym, ◌∙◌, codes}
 use Rattle.cdni_log.specs.Line.{directive, line_end}
-use Rattle.log_audit.specs.LogFile.{is_hash, is_origin, is_uuid}
 use Rattle.log_audit.specs.Lines.{is_urn}
 use Rattle.log_audit.proofs.FrameLemmas.{frame_test}
 use Rattle.log_audit.proofs.head.is_uuid_line.Goals as goal

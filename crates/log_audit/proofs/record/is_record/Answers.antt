@@ -1,4 +1,4 @@
-use Rattle.std.proofs.Common.{◌∙◌, length, sym}
+use Rattle.std.proofs.Common.{◌∙◌, sym}
 use Rattle.std.specs.Option.{option_map}
 use Rattle.log_audit.proofs.ValueLemmas.{goes_done, none_not}
 use Rattle.log_audit.proofs.record.is_record.Goals as goal

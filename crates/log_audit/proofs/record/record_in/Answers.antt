@@ -1,5 +1,4 @@
-use Rattle.std.proofs.Common.{[], ◌∷◌, None, Some, sym, ◌∙◌}
-use Rattle.cdni_log.specs.Line.{line_end}
+use Rattle.std.proofs.Common.{Some, sym, ◌∙◌}
 use Rattle.log_audit.specs.Lines.{parts_in}
 use Rattle.log_audit.proofs.FrameLemmas.{record_test}
 use Rattle.log_audit.proofs.ValueLemmas.{record_is}

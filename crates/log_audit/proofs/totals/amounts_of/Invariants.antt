@@ -1,4 +1,4 @@
-use Rattle.std.proofs.Common.{◌≡◌, drop, [], Some}
+use Rattle.std.proofs.Common.{◌≡◌, drop}
 use Rattle.std.specs.Option.{option_map}
 use Rattle.log_audit.specs.Lines.{parts_in}
 use Rattle.log_audit.specs.Totals.{is_cached, is_entity, is_total, last_below, value_in}

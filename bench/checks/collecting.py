@@ -18,7 +18,7 @@ def must(holds, what):
 
 
 def collect(port, folder):
-    ran = subprocess.run(["docs/collect-logs.sh", f"127.0.0.1:{port}", folder], capture_output=True, text=True)
+    ran = subprocess.run(["docs/collect-logs.sh", f"127.0.0.1:{port}", folder], capture_output=True, text=True, env=os.environ | {"CDNID": sys.argv[1]})
     print(f"status {ran.returncode}: {(ran.stdout + ran.stderr).strip() or 'nothing was said'}")
     return ran.returncode
 

@@ -15,9 +15,13 @@ place_of fields field = position_or_len (is_same field) fields
 abbrev pub value_at : List (List ℕ) → ℕ → List ℕ
 value_at values place = get_or values place []
 
+-- the values at these places
+abbrev pub values_at : List (List ℕ) → List ℕ → List (List ℕ)
+values_at values places = map (value_at values) places
+
 -- the values of the first fields put into the order of the second ones
 abbrev pub put_into : List Field → List (List ℕ) → List Field → List (List ℕ)
-put_into fields values order = map (λ field. value_at values (place_of fields field)) order
+put_into fields values order = values_at values (map (place_of fields) order)
 
 abbrev pub is_field_of : List Field → Field → Bool
 is_field_of fields field = list_any (is_same field) fields
@@ -49,10 +53,6 @@ report_text audited = flat_map (printed_record audited.fields) audited.records +
 -- the places of the fields in the order in which they are printed
 abbrev pub printed_places : List Field → List ℕ
 printed_places fields = map (place_of fields) (printed_order fields)
-
--- the values at these places
-abbrev pub values_at : List (List ℕ) → List ℕ → List (List ℕ)
-values_at values places = map (value_at values) places
 
 -- each place is the next one
 abbrev pub are_next : ℕ → List ℕ → Bool

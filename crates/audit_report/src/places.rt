@@ -22,11 +22,7 @@ pub(crate) fn printed_places(alloc: Global, fields: &[Field]) -> Result<Vec<usiz
 }
 
 // adds the places of those in the order that are fields
-fn add_places(
-    places: &mut Vec<usize>,
-    order: &[Field],
-    fields: &[Field],
-) -> Result<(), AllocError>
+fn add_places(places: &mut Vec<usize>, order: &[Field], fields: &[Field]) -> Result<(), AllocError>
     ensures { OnOk result (places.new.items
         ≡ places.old.items ++ map (place_of fields.now) (filter (is_field_of fields.now) order.now)) }
 {

@@ -1,6 +1,6 @@
 //! What is printed of a log file that was checked.
 
-ghost use Rattle.std.specs.Prelude.{◌≡◌, ◌+◌, ◌<◌, ◌++◌, ◌∷◌, ℕ, List, Some, count_by, decimal, length, true, IfOk, IfSome, OnOk, ◌==◌};
+ghost use Rattle.std.specs.Prelude.{◌≡◌, ◌+◌, ◌^◌, ◌<◌, ◌++◌, [], ◌∷◌, ℕ, List, Some, count_by, decimal, length, true, IfOk, IfSome, OnOk, ◌==◌};
 ghost use Rattle.std.specs.List.{flat_map};
 ghost use Rattle.std.specs.Option.{option_map};
 ghost use Rattle.audit_report.specs.Report.{are_next, printed_order, printed_places, printed_record, put_into, report_text, totals_text};
@@ -48,35 +48,76 @@ fn add_records(out: &mut Vec<u8>, places: &[usize], records: &[Text]) -> Result<
 {
     let in_order = are_next(0, places);
     'records: for record in records {
-        if in_order && count_values(record.bytes()) == places.len() {
-            out.extend_from_slice(record.bytes())?;
-        } else {
-            add_values(out, places, record.bytes())?;
-        }
-        out.extend_from_slice(b"\n")?;
+        add_record(out, places, in_order, record.bytes())?;
     }
     Ok(())
 }
 
+// adds the line of a record, with the values at these places; whether these are one behind the other
+fn add_record(
+    out: &mut Vec<u8>,
+    places: &[usize],
+    in_order: bool,
+    line: &[u8],
+) -> Result<(), AllocError>
+    requires { in_order ≡ are_next 0 places.now }
+    ensures { OnOk result (out.new.items
+        ≡ out.old.items ++ (tabbed (values_at (values_of line.now) places.now) ++ 10 ∷ [])) }
+{
+    add_printed(out, places, in_order, line)?;
+    out.extend_from_slice(b"\n")?;
+    Ok(())
+}
+
+// adds the values at these places, joined by tabs: the line as it stands, where it is these
+fn add_printed(
+    out: &mut Vec<u8>,
+    places: &[usize],
+    in_order: bool,
+    line: &[u8],
+) -> Result<(), AllocError>
+    requires { in_order ≡ are_next 0 places.now }
+    ensures { OnOk result (out.new.items ≡ out.old.items ++ tabbed (values_at (values_of line.now) places.now)) }
+{
+    if is_printed_so(places, in_order, line) {
+        out.extend_from_slice(line)?;
+        return Ok(());
+    }
+    add_values(out, places, line)
+}
+
+// whether the line is the values at these places, since it has so many, one behind the other
+fn is_printed_so(places: &[usize], in_order: bool, line: &[u8]) -> bool
+    requires { in_order ≡ are_next 0 places.now }
+    ensures { result ≡ true → tabbed (values_at (values_of line.now) places.now) ≡ line.now }
+{
+    in_order && count_values(line) == places.len()
+}
+
 // how many values the line has
+#[tactic(auto, using(crate::proofs::ReportLemmas::values_counted))]
 fn count_values(line: &[u8]) -> usize
     requires { length line.now < 2 ^ 63 }
     ensures { result ≡ length (values_of line.now) }
 {
-    line.iter().filter(|byte| **byte == TAB).count() + 1
+    count_tabs(line) + 1
+}
+
+fn count_tabs(line: &[u8]) -> usize
+    ensures { result ≡ count_by (λ byte. byte == 9) line.now }
+{
+    line.iter().filter(|byte| **byte == TAB).count()
 }
 
 // adds the values at these places, joined by tabs
 fn add_values(out: &mut Vec<u8>, places: &[usize], line: &[u8]) -> Result<(), AllocError>
     ensures { OnOk result (out.new.items ≡ out.old.items ++ tabbed (values_at (values_of line.now) places.now)) }
 {
-    match places {
-        [] => Ok(()),
-        [first, others @ ..] => {
-            out.extend_from_slice(value_at(line, *first))?;
-            add_values_behind(out, others, line)
-        }
-    }
+    let Some((first, others)) = places.split_first() else {
+        return Ok(());
+    };
+    out.extend_from_slice(value_at(line, *first))?;
+    add_values_behind(out, others, line)
 }
 
 // adds the values at these places, each behind a tab

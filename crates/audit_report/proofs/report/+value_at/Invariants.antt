@@ -1,4 +1,3 @@
-use Rattle.std.proofs.Common.{length}
 use Rattle.audit_report.proofs.report.+value_at.Given as goal
 
 abbrev pub decreases-value_at : goal.decreases-value_at

@@ -1,4 +1,4 @@
-use Rattle.std.proofs.Common.{◌≡◌, ◌++◌, map, take}
+use Rattle.std.proofs.Common.{◌≡◌, ◌++◌, take}
 use Rattle.cdni_log.specs.Line.{tabbed_behind}
 use Rattle.audit_report.specs.Report.{values_at, values_of}
 use Rattle.audit_report.proofs.report.add_values_behind.Given as goal

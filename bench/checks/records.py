@@ -3,6 +3,7 @@ import collections
 import hashlib
 import random
 import re
+import subprocess
 import sys
 import threading
 
@@ -79,9 +80,11 @@ def cut_all(server, records, ended):
 
 
 def note_file(text, records):
-    """Notes the records of a log file, whose hash must be that of what stands before it."""
+    """Notes the records of a log file, whose hash must be that of what stands before it, and which `cdnid audit` must accept."""
     whole, hashed = re.fullmatch(rb"(.*\r\n)#SHA256-hash:\t([0-9a-f]{64})\r\n", text, re.S).groups()
     assert hashlib.sha256(whole).hexdigest().encode() == hashed, "the hash differs"
+    audited = subprocess.run([PROGRAM, "audit"], input=text, capture_output=True)
+    assert audited.returncode == 0, audited.stderr
     names = re.search(rb"\r\n#fields:\t(.*?)\r\n", whole).group(1).decode().split("\t")
     assert not LOGGED or names == COMPARED, "other fields"
     for line in whole.decode().split("\r\n"):

@@ -10,6 +10,7 @@ import tempfile
 import threading
 import time
 
+sys.path.append(f"{sys.path[0]}/../tools")
 from upstream import Origin, Server
 
 PROGRAM, WORKERS, ONLY = sys.argv[1], sys.argv[2], sys.argv[3:]

@@ -14,7 +14,7 @@ use Rattle.http_node.specs.declared.audit.Input.TheVariants as input
 use Rattle.log_audit.specs.Audit.{HasSums, IsFaultOf, IsWithin, ReadsFile}
 use Rattle.log_audit.specs.LogFile.{true_hash, LogFile, IsLogFile}
 use Rattle.log_audit.specs.declared.fault.AuditFault.{AuditFault}
-use Rattle.log_audit.specs.declared.fault.AuditFault.TheVariants as fault
+use Rattle.log_audit.specs.declared.fault.AuditFault.TheVariants as wrong
 use Rattle.log_audit.specs.declared.audited.Audited.{Audited}
 use Rattle.replay_script.specs.Replay.{IsTold, AppendsPart}
 
@@ -28,15 +28,15 @@ IsToldOf text audited = ReadsFile text audited × ((file : LogFile) → IsLogFil
 
 -- the note of a text that is not accepted
 abbrev pub fault_note : AuditFault → List ℕ
-fault_note (fault.TooLong len) = codes "too long\n"
-fault_note (fault.BadLine line) = codes "line " ++ decimal line ++ codes ": not a log line\n"
-fault_note (fault.BadHash written found) = codes "hash " ++ written ++ codes " " ++ found ++ codes "\n"
-fault_note fault.Memory = codes "want of memory\n"
+fault_note (wrong.TooLong len) = codes "too long\n"
+fault_note (wrong.BadLine line) = codes "line " ++ decimal line ++ codes ": not a log line\n"
+fault_note (wrong.BadHash written found) = codes "hash " ++ written ++ codes " " ++ found ++ codes "\n"
+fault_note wrong.Memory = codes "want of memory\n"
 
 -- the text is not accepted, and this is the note that says why
 pub record IsRefused (text note : List ℕ) : Type 0 where
   pub fault : AuditFault
-  pub cause : fault ≢ fault.Memory
+  pub cause : fault ≢ wrong.Memory
   pub fault_is : IsFaultOf text fault
   pub note_is : note ≡ fault_note fault
   pub unacceptable : IsAcceptable text → ⊥
@@ -50,7 +50,7 @@ status_of end.Memory = status.Memory
 
 abbrev pub note_of_end : AuditEnd → List ℕ
 note_of_end end.Done = []
-note_of_end (end.Refused note) = note
+note_of_end (end.Refused note) = note.items
 note_of_end end.ReadFault = note_of status.ReadFault None
 note_of_end end.WriteFault = note_of status.WriteFault None
 note_of_end end.Memory = note_of status.Memory None
@@ -58,7 +58,7 @@ note_of_end end.Memory = note_of status.Memory None
 -- what the end of the check of a text says of it and of the output
 abbrev pub EndsAt : List ℕ → Option (List ℕ) → Option (List ℕ) → AuditEnd → Type 0
 EndsAt text old new end.Done = (audited : Audited) × IsToldOf text audited × Appends old new (report_text audited)
-EndsAt text old new (end.Refused note) = IsRefused text note × Keeps old new
+EndsAt text old new (end.Refused note) = IsRefused text note.items × Keeps old new
 EndsAt text old new end.ReadFault = Keeps old new
 EndsAt text old new end.WriteFault = (audited : Audited) × IsToldOf text audited
     × AppendsPart old new (report_text audited)
@@ -113,8 +113,8 @@ IsEndOf audited old new (end.Refused note) = ⊥
 
 -- the text is refused for this fault, or memory was wanted
 abbrev pub IsRefusal : AuditFault → AuditEnd → Type 0
-IsRefusal wrong end.Memory = Unit {0}
-IsRefusal wrong (end.Refused note) = (wrong ≢ fault.Memory) × (note ≡ fault_note wrong)
-IsRefusal wrong end.Done = ⊥
-IsRefusal wrong end.ReadFault = ⊥
-IsRefusal wrong end.WriteFault = ⊥
+IsRefusal fault end.Memory = Unit {0}
+IsRefusal fault (end.Refused note) = (fault ≢ wrong.Memory) × (note.items ≡ fault_note fault)
+IsRefusal fault end.Done = ⊥
+IsRefusal fault end.ReadFault = ⊥
+IsRefusal fault end.WriteFault = ⊥

@@ -153,8 +153,7 @@ fn refused(alloc: Global, fault: &AuditFault) -> AuditEnd
 
 // the note of a text that is not accepted; none for want of memory
 fn fault_note(alloc: Global, fault: &AuditFault) -> Result<Vec<u8>, AllocError>
-    ensures note { IfOk result (λ note. note.items ≡ fault_note fault.now) }
-    ensures cause { fault.now ≡ AuditFault.Memory → result ≡ Err AllocError }
+    ensures { IfOk result (λ note. (fault.now ≢ AuditFault.Memory) × (note.items ≡ fault_note fault.now)) }
 {
     match fault {
         AuditFault::TooLong { len: _ } => Vec::from_slice(alloc, b"too long\n"),

@@ -6,7 +6,7 @@
 set -u
 cd "$(dirname "$0")/../.."
 program=$PWD/crates/cdnid/out/cdnid
-[[ $# -gt 0 ]] || set -- docs cases statuses answers records audits descriptors withstand collecting chain operating front transparent
+[[ $# -gt 0 ]] || set -- docs cases statuses answers records audits descriptors collecting chain operating front transparent
 
 # what a check needs beside python3
 needs() {

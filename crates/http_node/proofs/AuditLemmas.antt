@@ -27,7 +27,7 @@ past_limit old new before after limit len none read =
     let e : length (before ++ moves.taken) ≡ length (read.0 ++ after) = ap length moves.parts in
     let z : length before ≡ 0 = ap length none in
     told_past old new moves.taken limit moves.consumed
-        (omega (arith, e, z, length-append before moves.taken, length-append read.0 after, read.2, read.3))
+    (omega (arith, e, z, length-append before moves.taken, length-append read.0 after, read.2, read.3))
 
 too_long_is_known : (len : ℕ) → wrong.TooLong len ≡ wrong.Memory → ⊥
 too_long_is_known len e = cc
@@ -36,14 +36,16 @@ too_long_is_known len e = cc
 pub too_long : (text : List ℕ) (old new : Option (List ℕ)) (last : AuditEnd) (len : ℕ) → 268435456 < length text
     → IsRefusal (wrong.TooLong len) last → Keeps old new → EndsAt text old new last
 too_long text old new end.Memory len long is kept = kept
-too_long text old new (end.Refused note) len long is kept =
-    (record {
-      fault = wrong.TooLong (length text);
-      cause = too_long_is_known (length text);
-      fault_is = (refl, long);
-      note_is = is.1;
-      unacceptable = λ a. omega (arith, long, a.0)
-    }, kept)
+too_long text old new (end.Refused note) len long is kept = (
+  record {
+    fault = wrong.TooLong (length text);
+    cause = too_long_is_known (length text);
+    fault_is = (refl, long);
+    note_is = is.1;
+    unacceptable = λ a. omega (arith, long, a.0);
+  },
+  kept,
+)
 too_long text old new end.Done len long is kept = absurd is
 too_long text old new end.ReadFault len long is kept = absurd is
 too_long text old new end.WriteFault len long is kept = absurd is

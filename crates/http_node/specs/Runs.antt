@@ -1,5 +1,5 @@
 -- What each command that reads and writes streams did.
-use Rattle.std.specs.Prelude.{◌≡◌, ◌⊎◌, List, None, IfSome}
+use Rattle.std.specs.Prelude.{◌≡◌, ◌⊎◌, None, IfSome}
 use Rattle.std.specs.Io.KnownBytes.{Keeps}
 use Rattle.edge_base.specs.Causes.{Rose}
 use Rattle.edge_base.specs.declared.status.Status.{Status}

@@ -1,8 +1,9 @@
 #!/usr/bin/env bash
-# Collects the log files of a node: cuts, reads each file, compares its hash with its bytes, keeps it on disk, and only then drops it from the
-# node. A file that is not whole, or whose hash differs, stays at the node.
+# Collects the log files of a node: cuts, reads each file, checks it by `cdnid audit`, keeps it on disk, and only then drops it from the node. A
+# file that is not accepted stays at the node.
 #
-# Usage: collect-logs.sh ADDRESS:PORT FOLDER [CONTROL-HOST]   (control.example where it is left out; needs curl, sha256sum and flock)
+# Usage: collect-logs.sh ADDRESS:PORT FOLDER [CONTROL-HOST]   (control.example where it is left out; needs curl and flock, and cdnid, or the program that
+# CDNID names)
 #
 # Files are named FOLDER/UUID.log after their own UUID, since a node counts its files from 1 again after a restart.
 # Status: 0 where each log file was kept and dropped; 1 where something failed, with a line that says what; 2 where the words are not the usage's.
@@ -12,7 +13,7 @@ if [[ $# -lt 2 || $# -gt 3 ]]; then
     echo "usage: collect-logs.sh ADDRESS:PORT FOLDER [CONTROL-HOST]" >&2
     exit 2
 fi
-node=http://$1 folder=$2 control=${3:-control.example}
+node=http://$1 folder=$2 control=${3:-control.example} cdnid=${CDNID:-cdnid}
 
 fail() {
     echo "collect-logs: $*" >&2
@@ -24,26 +25,17 @@ ask() {
     curl --silent --max-time 60 --header "Host: $control" --request "$1" --output "$3" --write-out '%{http_code}' "$node$2"
 }
 
-# says whether the last line of a file has the hash of all bytes before it
-is_whole() {
-    local told found
-    told=$(tail -n 1 "$1" | sed -n 's/^#SHA256-hash:\t\([0-9a-f]\{64\}\)\r$/\1/p')
-    found=$(head -n -1 "$1" | sha256sum | cut -d ' ' -f 1)
-    [[ -n $told && $told == "$found" ]]
-}
-
 # take NUMBER: reads a log file, keeps it, and drops it from the node
 take() {
-    local status uuid
+    local status uuid told
     status=$(ask GET "/logs/$1" "$part")
     [[ $status == 200 ]] || fail "log file $1 was answered $status"
-    is_whole "$part" || fail "log file $1 differs from its hash; it stays at the node, what came is in $part"
+    told=$("$cdnid" audit <"$part" 2>&1) || fail "log file $1 is not accepted ($(tail -n 1 <<<"$told")); it stays at the node, what came is in $part"
     uuid=$(sed -n 's/^#UUID:\t"urn:uuid:\([0-9a-f-]\{36\}\)"\r$/\1/p' "$part" | head -n 1)
-    [[ -n $uuid ]] || fail "log file $1 has no UUID; it stays at the node, what came is in $part"
     sync "$part" && mv "$part" "$folder/$uuid.log" && sync "$folder" || fail "log file $1 cannot be kept in $folder"
     status=$(ask DELETE "/logs/$1" /dev/null)
     [[ $status == 204 ]] || fail "log file $1 is kept as $uuid.log, but dropping it was answered $status"
-    echo "kept $uuid.log: $(grep -vc '^#' "$folder/$uuid.log") records"
+    echo "kept $uuid.log: $(tail -n 1 <<<"$told")"
 }
 
 # takes each log file that the node has

@@ -138,71 +138,155 @@ def wrapped(words, width, size, part=SANS):
     return lines
 
 
-def svg(height, title, parts):
-    head = f'<svg xmlns="http://www.w3.org/2000/svg" viewBox="0 0 {WIDTH} {height:g}" width="{WIDTH}" height="{height:g}" role="img">'
-    return "\n".join([head, f"<title>{escape(title)}</title>", f"<style>{STYLE}</style>", box(0, 0, WIDTH, height, "paper"), *parts, "</svg>"]) + "\n"
+def svg(height, title, parts, width=WIDTH):
+    head = f'<svg xmlns="http://www.w3.org/2000/svg" viewBox="0 0 {width} {height:g}" width="{width}" height="{height:g}" role="img">'
+    return "\n".join([head, f"<title>{escape(title)}</title>", f"<style>{STYLE}</style>", box(0, 0, width, height, "paper"), *parts, "</svg>"]) + "\n"
 
 
 # ---- layers
 
-BOX_HEIGHT, GAP, CODE = 30, 12, 13
-LEFT, RIGHT = 150, 190
+BOX_HEIGHT, GAP, CODE, COUNT = 30, 10, 13, 11
+# The height between two rows, through which lines go, and the width of a line that passes a row.
+FALL, PASS = 30, 6
+LEFT, LAYERS_WIDTH = 170, 1040
 
 
-def levels_of(names, stands):
-    """The crates of a group by how many crates of it are below them, on the longest way; the highest first."""
-    level = {}
+class Row:
+    """The crates of a group that are equally high, in order, and the lines that pass between them, each with where its middle is."""
+
+    def __init__(self):
+        self.items, self.widths, self.middle = [], {}, {}
+
+    def add(self, item, width):
+        self.items.append(item)
+        self.widths[item] = width
+
+    def width(self):
+        return sum(self.widths.values()) + GAP * (len(self.items) - 1)
+
+    def spread(self, left, room):
+        """Puts the items side by side, in the middle of the room."""
+        x = left + (room - self.width()) / 2
+        for item in self.items:
+            self.middle[item] = x + self.widths[item] / 2
+            x += self.widths[item] + GAP
+
+
+def heights_of(names, stands):
+    """How many rows below the top each crate is: just below the lowest of those of its group that use it."""
+    heights = {}
+
+    def height(name):
+        if name not in heights:
+            heights[name] = max([height(it) + 1 for it in names if name in stands[it]], default=0)
+        return heights[name]
+
     for name in names:
-        level[name] = max([level[it] + 1 for it in stands[name] if it in level], default=0)
-    return [[name for name in names if level[name] == at] for at in sorted(set(level.values()), reverse=True)]
+        height(name)
+    return heights
 
 
-def lines_of_boxes(names, room):
-    """The crates in lines that are no wider than the room, each with its width."""
-    lines, left = [[]], room
+def nearest(names, stands):
+    """For each crate those of its group that it stands on, without those that one of these stands on."""
+    below = {}
+    for name in stands:
+        below[name] = set(stands[name]).union(*[below[it] for it in stands[name]])
+    return {name: [it for it in stands[name] if it in names and not any(it in below[other] for other in stands[name])] for name in names}
+
+
+def rows_of_group(names, stands, users):
+    """The rows of a group from the top, and its lines: for each the item in each row from the one that stands to the one it stands on."""
+    heights, lines = heights_of(names, stands), []
+    rows = [Row() for _ in range(max(heights.values()) + 1)]
     for name in names:
-        width = len(name) * CODE * MONO + 20
-        if width > left:
-            lines.append([])
-            left = room
-        lines[-1].append((name, width))
-        left -= width + GAP
-    return lines
+        rows[heights[name]].add(name, len(name) * CODE * MONO + len(str(users[name])) * COUNT * MONO + 26)
+    for name, others in nearest(names, stands).items():
+        for other in others:
+            line = [name]
+            for at in range(heights[name] + 1, heights[other]):
+                line.append((name, other, at))
+                rows[at].add(line[-1], PASS)
+            lines.append([*line, other])
+    return rows, lines
 
 
-def draw_band(group, names, stands, groups, top):
-    """A group from this height on: its parts, and how high it is."""
-    room = WIDTH - 2 * MARGIN - LEFT - RIGHT
-    lines = [line for level in levels_of(names, stands) for line in lines_of_boxes(level, room)]
-    below = [it for it in groups if it != group and any(other in groups[it] for name in names for other in stands[name])]
-    said = wrapped(("stands on " + ", ".join(below)) if below else "stands on the kit alone", RIGHT - 28, 12)
-    height = max(len(lines) * (BOX_HEIGHT + GAP) + GAP, len(said) * 17 + 26, 60)
-    parts = [box(MARGIN, top, WIDTH - 2 * MARGIN, height, "band")]
-    for at, line in enumerate(wrapped(group, LEFT - 24, 16)):
-        parts.append(text(MARGIN + 16, top + 32 + 20 * at, line, 16))
-    y = top + GAP + (height - GAP - len(lines) * (BOX_HEIGHT + GAP)) / 2
+def put_in_order(rows, lines, left, room):
+    """Orders each row by the middles of what its items have lines to in the row above, and then below, some times."""
+    near = {}
     for line in lines:
-        x = MARGIN + LEFT + (room - sum(width + GAP for _, width in line) + GAP) / 2
-        for name, width in line:
-            parts.append(box(x, y, width, BOX_HEIGHT, "law" if name.endswith("_law") else "box"))
-            parts.append(text(x + width / 2, y + 20, name, CODE, "code", "middle"))
-            x += width + GAP
-        y += BOX_HEIGHT + GAP
+        for upper, lower in zip(line, line[1:]):
+            near.setdefault(upper, ([], []))[1].append(lower)
+            near.setdefault(lower, ([], []))[0].append(upper)
+    for row in rows:
+        row.spread(left, room)
+    for turn in range(8):
+        side, order = turn % 2, rows[1:] if turn % 2 == 0 else rows[-2::-1]
+        for row in order:
+            middles = {item: at for other in rows for item, at in other.middle.items()}
+
+            def wanted(item):
+                found = [middles[it] for it in near.get(item, ([], []))[side]]
+                return sum(found) / len(found) if found else middles[item]
+
+            row.items.sort(key=wanted)
+            row.spread(left, room)
+
+
+def draw_band(group, names, stands, groups, users, top):
+    """A group from this height on: its parts, and how high it is."""
+    left, room = MARGIN + LEFT, LAYERS_WIDTH - 2 * MARGIN - LEFT - GAP
+    rows, lines = rows_of_group(names, stands, users)
+    put_in_order(rows, lines, left, room)
+    for row in rows:
+        if row.width() > room:
+            stop(f"a row of the group {group} is wider than the picture")
+    below = [it for it in groups if it != group and any(other in groups[it] for name in names for other in stands[name])]
+    said = wrapped(("stands on " + ", ".join(below)) if below else "stands on the kit alone", LEFT - 24, 12)
+    inner = len(rows) * BOX_HEIGHT + (len(rows) - 1) * FALL
+    title = wrapped(group, LEFT - 24, 16)
+    height = max(inner + 2 * GAP, 20 * len(title) + len(said) * 17 + 24)
+    parts = [box(MARGIN, top, LAYERS_WIDTH - 2 * MARGIN, height, "band")]
+    for at, line in enumerate(title):
+        parts.append(text(MARGIN + 16, top + 28 + 20 * at, line, 16))
     for at, line in enumerate(said):
-        parts.append(text(WIDTH - MARGIN - RIGHT + 16, top + 30 + 17 * at, line, 12, "soft"))
+        parts.append(text(MARGIN + 16, top + 28 + 20 * len(title) + 17 * at, line, 12, "soft"))
+    tops = [top + (height - inner) / 2 + at * (BOX_HEIGHT + FALL) for at in range(len(rows))]
+    place = {item: (middle, tops[at]) for at, row in enumerate(rows) for item, middle in row.middle.items()}
+    for line in lines:
+        x, y = place[line[0]]
+        way = f"M{x:g} {y + BOX_HEIGHT:g}"
+        for item in line[1:]:
+            x, y = place[item]
+            way += f"L{x:g} {y:g}"
+            if item != line[-1]:
+                way += f"V{y + BOX_HEIGHT:g}"
+        parts.append(f'<path d="{way}" class="line"/><circle cx="{x:g}" cy="{y:g}" r="3" class="head"/>')
+    for row in rows:
+        for name in row.items:
+            if name in stands:
+                x, y = place[name]
+                width = row.widths[name]
+                parts.append(box(x - width / 2, y, width, BOX_HEIGHT, "law" if name.endswith("_law") else "box"))
+                parts.append(text(x - width / 2 + 10, y + 20, name, CODE, "code"))
+                parts.append(text(x + width / 2 - 8, y + 20, str(users[name]), COUNT, "code soft", "end"))
     return parts, height
 
 
 def draw_layers(groups, stands):
     shown = {group: names for group, names in groups.items() if group not in NOT_LAYERS}
+    users = {name: sum(name in below for below in stands.values()) for name in stands}
     parts, y = [], MARGIN
     for group in reversed(shown):
-        drawn, height = draw_band(group, shown[group], stands, shown, y)
+        drawn, height = draw_band(group, shown[group], stands, shown, users, y)
         parts += drawn
         y += height + 14
-    said = "A crate stands on crates in the lines below it. Dashed: laws alone, no code of the program."
-    parts.append(text(MARGIN, y + 12, said, 13, "soft"))
-    return svg(y + 34, "The layers of the crates", parts)
+    for said in (
+        "A line leads down to a crate of the same group on which the one above it stands; what follows from other lines has none.",
+        "The number is how many crates use it, tests among them. Dashed: laws alone, no code of the program.",
+    ):
+        parts.append(text(MARGIN, y + 12, said, 13, "soft"))
+        y += 20
+    return svg(y + 14, "The crates by groups", parts, LAYERS_WIDTH)
 
 
 # ---- the way of a request

@@ -1,3 +1,4 @@
+mod AuditLemmas
 mod BatchLemmas
 mod GeneratedLemmas
 pub mod ServeLemmas

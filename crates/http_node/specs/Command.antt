@@ -17,6 +17,12 @@ is_summary (word ∷ option ∷ []) =
     bytes_eq (string_bytes word) (codes "replay") && bytes_eq (string_bytes option) (codes "--summary")
 is_summary (word ∷ option ∷ next ∷ words) = false
 
+-- the one word `audit`
+abbrev pub is_audit : List (String Global) → Bool
+is_audit [] = false
+is_audit (word ∷ []) = bytes_eq (string_bytes word) (codes "audit")
+is_audit (word ∷ next ∷ words) = false
+
 -- the word `generate` and two that write these numbers
 abbrev pub AsksFor : List (String Global) → ScriptNumbers → Type 0
 AsksFor [] numbers = ⊥
@@ -30,4 +36,5 @@ AsksFor (word ∷ rounds ∷ seed ∷ next ∷ words) numbers = ⊥
 pub record IsNoCommand (words : List (String Global)) : Type 0 where
   pub replay : is_replay words ≡ false
   pub summary : is_summary words ≡ false
+  pub audit : is_audit words ≡ false
   pub generate : (numbers : ScriptNumbers) → AsksFor words numbers → ⊥

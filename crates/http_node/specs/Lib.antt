@@ -1,3 +1,4 @@
+pub mod Audit
 pub mod Batch
 pub mod Command
 pub mod Note

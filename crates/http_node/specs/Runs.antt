@@ -1,11 +1,12 @@
 -- What each command that reads and writes streams did.
-use Rattle.std.specs.Prelude.{◌≡◌, ◌⊎◌, List, None, IfSome}
+use Rattle.std.specs.Prelude.{◌≡◌, ◌⊎◌, None, IfSome}
 use Rattle.std.specs.Io.KnownBytes.{Keeps}
 use Rattle.edge_base.specs.Causes.{Rose}
 use Rattle.edge_base.specs.declared.status.Status.{Status}
 use Rattle.edge_base.specs.declared.status.Status.TheVariants as status
 use Rattle.generated_script.specs.Numbers.{ScriptNumbers}
 use Rattle.generated_script.specs.Script.{script_of, Generates}
+use Rattle.http_node.specs.Audit.{Audits, IsSettled}
 use Rattle.http_node.specs.Batch.{MeetsNone, ReadsNone, ReadsScript, ReadsSummary, Replays, Sums}
 use Rattle.http_node.specs.Note.{note_of}
 use Rattle.http_node.specs.Told.{GainsNote, StreamTold}
@@ -45,3 +46,9 @@ pub record RunsGenerate (numbers : ScriptNumbers) (input input' output output' n
   pub unread : Keeps input.bytes input'.bytes
   pub noted : GainsNote notes notes' (note_of result None)
   pub complete : (Rose output.faults output'.faults → ⊥) → (result ≡ status.Done) ⊎ (result ≡ status.Memory)
+
+-- `audit`: what was read, written and noted, by the status; and the status, where neither stream failed
+pub record RunsAudit (input input' output output' notes notes' : StreamTold) (result : Status) : Type 0 where
+  pub audited : Audits input.bytes input'.bytes output.bytes output'.bytes (GainsNote notes notes') result
+  pub complete : (Rose input.faults input'.faults → ⊥) → (Rose output.faults output'.faults → ⊥)
+      → IfSome input.bytes (λ text. IsSettled text result)

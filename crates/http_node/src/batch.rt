@@ -12,12 +12,13 @@ ghost use Rattle.answer_summary.specs.Law.{SumsUp};
 ghost use Rattle.answer_summary.specs.Summary.{rows_of};
 ghost use Rattle.generated_law.specs.Law.{IsScript};
 ghost use Rattle.http_node.specs.Batch.{status_of, Replays, ReadsScript, MeetsNone, Sums, ReadsSummary, ReadsNone, WritesSummary};
-ghost use Rattle.http_node.specs.Command.{is_replay, is_summary, AsksFor, IsNoCommand};
+ghost use Rattle.http_node.specs.Command.{is_audit, is_replay, is_summary, AsksFor, IsNoCommand};
 ghost use Rattle.http_node.specs.Note.{end_note, note_of, IsNoted};
-ghost use Rattle.http_node.specs.Runs.{RunsGenerate, RunsNothing, RunsReplay, RunsSummary};
+ghost use Rattle.http_node.specs.Runs.{RunsAudit, RunsGenerate, RunsNothing, RunsReplay, RunsSummary};
 ghost use Rattle.http_node.specs.Told.{stream_told};
 
-use crate::command::{is_replay, is_summary, numbers_of};
+use crate::audit::audit_noted;
+use crate::command::{is_audit, is_replay, is_summary, numbers_of};
 use crate::law::a_generated_script_goes_on;
 use crate::note::{NOTE_ROOM, note_status, put_end_note, write_note};
 use answer_summary::{Summary, a_summary_has_each_word_once};
@@ -30,12 +31,13 @@ use std::alloc::Global;
 /// Runs the command that `words`, those after the program's name, are. `replay` reads a script from `input` and writes its
 /// answers to `output`, which keep the law of deliveries; with `--summary` it writes how many answers begin with each word
 /// in their place, at the end. `generate`, a number of rounds from 1 to 1,000,000 and one from 0 to 2,147,483,647 write
-/// the script of these numbers, and nothing is read. It always returns. One line on how it ended, but for `Done`, goes to
-/// `notes`; where that fails nothing else changes.
+/// the script of these numbers, and nothing is read. `audit` reads a log file of at most 268,435,456 bytes from `input`, checks
+/// that it is whole, well formed and unchanged (RFC 7937, section 3), and writes its records and what they sum to. It always
+/// returns. One line on how it ended, but for `Done`, goes to `notes`; where that fails nothing else changes.
 ///
 /// The status is `Done` where the input was read to its end, and the whole output was written; `Script` where a line was
-/// read that is no script line and every answer before it was written, or counted, and then no other but `Memory`; `Usage`
-/// exactly where the words are no command; `ReadFault` and `WriteFault` exactly where the input's, the output's count of
+/// read that is no script line and every answer before it was written, or counted, or where the input is no log file that is
+/// accepted, and then no other but `Memory`; `Usage` exactly where the words are no command; `ReadFault` and `WriteFault` exactly where the input's, the output's count of
 /// faults rose in this call, as far as a count that stands at 2^64 - 1 can tell; and `Memory` for want of memory.
 pub fn batch_main<S: Source, K: Sink, E: Sink>(
     alloc: Global,
@@ -60,6 +62,11 @@ pub fn batch_main<S: Source, K: Sink, E: Sink>(
         (stream_told K.held K.faults output.old) (stream_told K.held K.faults output.new)
         (stream_told E.held E.faults notes.old) (stream_told E.held E.faults notes.new) result }
     ensures generate { (numbers : ScriptNumbers) → AsksFor words.now numbers → RunsGenerate numbers
+        (stream_told S.left S.faults input.old) (stream_told S.left S.faults input.new)
+        (stream_told K.held K.faults output.old) (stream_told K.held K.faults output.new)
+        (stream_told E.held E.faults notes.old) (stream_told E.held E.faults notes.new) result }
+
+    ensures audit { is_audit words.now ≡ true → RunsAudit
         (stream_told S.left S.faults input.old) (stream_told S.left S.faults input.new)
         (stream_told K.held K.faults output.old) (stream_told K.held K.faults output.new)
         (stream_told E.held E.faults notes.old) (stream_told E.held E.faults notes.new) result }
@@ -90,6 +97,9 @@ pub fn batch_main<S: Source, K: Sink, E: Sink>(
     }
     if is_summary(words) {
         return summarize_noted(alloc, input, output, notes);
+    }
+    if is_audit(words) {
+        return audit_noted(alloc, input, output, notes);
     }
     if let Some(numbers) = numbers_of(words) {
         return generate_noted(alloc, output, notes, &numbers);

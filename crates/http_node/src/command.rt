@@ -2,7 +2,7 @@
 
 ghost use Rattle.std.specs.Prelude.{◌≡◌, Some, IfSome};
 ghost use Rattle.generated_script.specs.Numbers.{ScriptNumbers};
-ghost use Rattle.http_node.specs.Command.{is_replay, is_summary, AsksFor};
+ghost use Rattle.http_node.specs.Command.{is_audit, is_replay, is_summary, AsksFor};
 
 use generated_script::Numbers;
 
@@ -22,6 +22,16 @@ pub(crate) fn is_summary(words: &[String]) -> bool
 {
     match words {
         [word, option] => word.as_str() == "replay" && option.as_str() == "--summary",
+        _ => false,
+    }
+}
+
+// whether the words are the one word `audit`
+pub(crate) fn is_audit(words: &[String]) -> bool
+    ensures { result ≡ is_audit words.now }
+{
+    match words {
+        [word] => word.as_str() == "audit",
         _ => false,
     }
 }

@@ -1,6 +1,7 @@
 //! The node as a program: the top calls.
 #![tactic(auto)]
 
+mod audit;
 mod batch;
 mod command;
 mod law;

@@ -28,7 +28,7 @@ pub fn note_status<E: Sink>(notes: &mut E, status: Status)
 }
 
 // the note of a status, where no line is to be named
-fn status_note(status: Status) -> &'static [u8]
+pub(crate) fn status_note(status: Status) -> &'static [u8]
     ensures { result.now ≡ note_of status None }
 {
     match status {

@@ -1,0 +1,16 @@
+pub mod AuditLemmas
+pub mod FileLemmas
+pub mod FormLemmas
+pub mod FrameLemmas
+pub mod HeadLemmas
+pub mod LineLemmas
+pub mod MomentLemmas
+pub mod PartLemmas
+pub mod PlaceLemmas
+pub mod SumLemmas
+pub mod UrlLemmas
+pub mod UuidLemmas
+pub mod ValueLemmas
+pub mod WalkLemmas
+pub mod WholeLemmas
+pub mod WrittenLemmas

@@ -18,7 +18,7 @@ pub begun_top : (low high : ℕ) (fs : List (Open Launched)) → AreBegun low hi
 begun_top low high [] so = so
 begun_top low high (f ∷ fs) so = let rest = begun_top f.what.begun high fs so.1 in omega (arith, so.0, rest)
 
-begun_lower : (lower low high : ℕ) (fs : List (Open Launched)) → AreBegun low high fs → lower ≤ low → AreBegun lower high fs
+pub begun_lower : (lower low high : ℕ) (fs : List (Open Launched)) → AreBegun low high fs → lower ≤ low → AreBegun lower high fs
 begun_lower lower low high [] so less = omega (arith, so, less)
 begun_lower lower low high (f ∷ fs) so less = (omega (arith, so.0, less), so.1)
 
@@ -49,7 +49,7 @@ pub least_top : (high : ℕ) (fs : List (Open Launched)) → least_begun high fs
 least_top high [] = omega arith
 least_top high (f ∷ fs) = let rest = least_top high fs in omega (arith, rest)
 
-begun_from : (oldest low high : ℕ) (fs : List (Open Launched)) → AreBegun low high fs → oldest ≤ least_begun high fs → AreBegun oldest high fs
+pub begun_from : (oldest low high : ℕ) (fs : List (Open Launched)) → AreBegun low high fs → oldest ≤ least_begun high fs → AreBegun oldest high fs
 begun_from oldest low high [] so below = below
 begun_from oldest low high (f ∷ fs) so below = (omega (arith, below), so.1)
 

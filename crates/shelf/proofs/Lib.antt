@@ -3,3 +3,4 @@ pub mod ItemLemmas
 pub mod ListLemmas
 pub mod MarkLemmas
 pub mod OpenLemmas
+pub mod TableLemmas

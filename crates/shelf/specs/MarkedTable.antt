@@ -117,8 +117,8 @@ abbrev pub marked_in : Marks → List Object → List Marked
 marked_in marks kept = filter_map (marked_by marks) kept
 
 -- There is a mark for each object and no other, and there is room for as many as can be filled in without memory.
-pub record IsMarked (table : objects.Kept) (marks : Marks) (count limit spare room : ℕ) : Type 0 where
+pub record IsMarked (table : objects.Kept) (marks : Marks) (limit spare room : ℕ) : Type 0 where
   pub limited : table.limit ≡ limit
   pub places : (table.spare ≡ spare) × (spare ≤ room)
   pub marked : All (λ object. is_some (marks object.key) ≡ true) table.objects
-  pub no_others : count ≡ length table.objects
+  pub no_others : (key : KeyParts) → objects.kept_of key table.objects ≡ None → marks key ≡ None

@@ -57,7 +57,7 @@ pub(crate) struct MarkedTable {
 
 impl Model for MarkedTable {
     ghost use Rattle.cdni_base.specs.Key.{same_key};
-    ghost use Rattle.indexmap.specs.IndexMap.{get, index_map_len, spare};
+    ghost use Rattle.indexmap.specs.IndexMap.{get, spare};
     ghost use Rattle.shelf.specs.MarkedTable.{IsMarked, Stocked, marked_in};
 
     ghost Value = { Stocked };
@@ -69,7 +69,7 @@ impl Model for MarkedTable {
       passed = t.table.passed;
     } };
 
-    ghost invariant = { λ t. IsMarked t.table (get same_key t.marks) (index_map_len t.marks) t.limit t.places (spare t.marks) };
+    ghost invariant = { λ t. IsMarked t.table (get same_key t.marks) t.limit t.places (spare t.marks) };
 }
 
 impl MarkedTable {

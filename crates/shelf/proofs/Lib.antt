@@ -1,6 +1,10 @@
 pub mod BegunLemmas
 pub mod ItemLemmas
+pub mod KeptLemmas
 pub mod ListLemmas
 pub mod MarkLemmas
+pub mod MovedLemmas
 pub mod OpenLemmas
+pub mod SettleLemmas
 pub mod TableLemmas
+pub mod TakenLemmas

@@ -1,4 +1,5 @@
 pub mod BegunLemmas
+pub mod HeldLemmas
 pub mod ItemLemmas
 pub mod KeptLemmas
 pub mod ListLemmas

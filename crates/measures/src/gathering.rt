@@ -1,5 +1,5 @@
 //! Gathers metadata over TCP, so that its time and its memory can be measured beside those of its exchanges alone
-//! (bench/gathering.sh), and prints how many documents came. Words: `gather`, a port of this machine and the path of the root
+//! (bench/peers/gathering.sh), and prints how many documents came. Words: `gather`, a port of this machine and the path of the root
 //! document; or `exchange`, a port, and how many documents are asked for, `/d/0`, `/d/1` and so on.
 //!
 //! Without words two documents are gathered from memory.

@@ -1,5 +1,5 @@
 //! Reads heads of requests and chunked bodies and puts heads of answers, so that their instructions can be counted
-//! (bench/heads.sh), and prints how many of them succeeded. Numbers: what is done, and how often, at most 200 times:
+//! (bench/instructions/heads.sh), and prints how many of them succeeded. Numbers: what is done, and how often, at most 200 times:
 //!
 //! * 0, 1: a head of 36 bytes is read by `httparse` alone, by `read_head`;
 //! * 2, 3: the same of a head of 12 header fields and 500 bytes;

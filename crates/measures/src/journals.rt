@@ -1,4 +1,4 @@
-//! Pushes and retires entries of a journal, so that the instructions of both can be counted (bench/journal.sh), and
+//! Pushes and retires entries of a journal, so that the instructions of both can be counted (bench/instructions/journal.sh), and
 //! prints how many entries are stored and retired. Numbers: how many entries stay stored, and how often one is
 //! pushed and one retired. Without numbers 1,000 stay and 10,000 go through.
 ghost use Rattle.std.specs.Prelude.{◌≡◌, ◌+◌, ◌≤◌, length, IfOk};

@@ -1,5 +1,5 @@
 //! Looks objects of a table up and fills others in, so that the instructions and the memory of both can be counted
-//! (bench/cache.sh), and prints how many look-ups and fills succeeded. Numbers: what is done (0: an object is looked up
+//! (bench/instructions/cache.sh), and prints how many look-ups and fills succeeded. Numbers: what is done (0: an object is looked up
 //! and touched, 1: one is looked up in vain, 2: one is filled in and another leaves, 3: the same without the table),
 //! how many objects are kept, of how many bytes each, and how often. Without numbers each is done 100 times with 1,000
 //! objects of one byte.

@@ -1,4 +1,4 @@
-//! Matches texts, so that the instructions of a match can be counted (bench/patterns.sh), and prints how many of them
+//! Matches texts, so that the instructions of a match can be counted (bench/instructions/patterns.sh), and prints how many of them
 //! matched. Numbers: that of a pattern (0 to 2), the length of the text in bytes, and how often it is matched.
 //! Without numbers each pattern is matched ten times on texts of 30, 300 and 3,000 bytes.
 use anyhow::bail;

@@ -1,4 +1,4 @@
-//! Looks up the places of addresses, so that the instructions of a look-up can be counted (bench/places.sh), and prints
+//! Looks up the places of addresses, so that the instructions of a look-up can be counted (bench/instructions/places.sh), and prints
 //! how many of them have a known place. Numbers: how many lines the place file has, how many addresses are looked
 //! up, whether by the table (0), by the plain scan (1), or by both, and then how many have the same place by both is
 //! printed (2), and whether they are IPv4 (0) or IPv6 addresses (1). Without numbers the table and the scan are

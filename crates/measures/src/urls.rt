@@ -1,4 +1,4 @@
-//! Reads URLs and writes dates, so that their instructions can be counted (bench/urls.sh), and prints how many of them
+//! Reads URLs and writes dates, so that their instructions can be counted (bench/instructions/urls.sh), and prints how many of them
 //! succeeded. Numbers: what is done (0: a target is read, 1: an HTTP date is written), the length of the URL in
 //! bytes, and how often. Without numbers each is done ten times, on URLs of 100, 1,000 and 4,000 bytes.
 use anyhow::bail;

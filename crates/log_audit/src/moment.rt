@@ -1,9 +1,10 @@
 //! Dates and times of day (RFC 7937, section 3.1, after RFC 3339).
 
 ghost use Rattle.std.specs.Prelude.{◌≡◌, ◌+◌, ◌-◌, ◌*◌, ◌<◌, ◌≤◌, ◌∷◌, ◌++◌, ◌&&◌, IsTrue, bytes_eq, nat_lt};
-ghost use Rattle.httpdate.specs.Calendar as calendar;
 ghost use Rattle.cdni_log.specs.Date as date;
 ghost use Rattle.log_audit.specs.Value.{is_date, is_date_of_years, is_time};
+
+use jiff::civil::Date;
 
 // whether the text is a date that the calendar has, in the years 1970 to 9999
 #[tactic(auto, unfolding(crate::specs::Value::is_date))]
@@ -34,29 +35,9 @@ fn is_civil_date(year: u32, month: u32, day: u32) -> bool
 {
     1970 <= year
         && year <= 9999
-        && 1 <= month
         && month <= 12
-        && 1 <= day
-        && day <= days_in_month(year, month)
-}
-
-fn days_in_month(year: u32, month: u32) -> u32
-    ensures days { result ≡ calendar.days_in_month year month }
-    ensures few { result ≤ 31 }
-{
-    if month == 2 {
-        if is_leap_year(year) { 29 } else { 28 }
-    } else if month == 4 || month == 6 || month == 9 || month == 11 {
-        30
-    } else {
-        31
-    }
-}
-
-fn is_leap_year(year: u32) -> bool
-    ensures { result ≡ calendar.is_leap_year year }
-{
-    year % 4 == 0 && (year % 100 != 0 || year % 400 == 0)
+        && day <= 31
+        && Date::new(year as i16, month as i8, day as i8).is_ok()
 }
 
 fn date_text(year: u32, month: u32, day: u32) -> [u8; 10]

@@ -9,6 +9,7 @@ use edge_base::{Clock, MemorySink, MemorySource, Status};
 use http_node::serve_main;
 use listing::{Moment, Text};
 use location_acl::Ip;
+use log_audit::audit;
 use std::alloc::{AllocError, Global};
 use std::sync::atomic::{AtomicU64, Ordering};
 use std::sync::{Arc, Wait};
@@ -34,7 +35,7 @@ const ROW: &[u8] = b"\thttp://v.example/b\thttp://v.example/b\tHTTP/1.1\t200\t";
 const TURNS: u64 = 1_000_000_000;
 
 // what the workers share: whether the second request is answered, how many requests were answered with 200, and whether the
-// log file that the first worker read has the second one's row
+// log file that the first worker read has the second one's row and is accepted
 #[derive(Drop)]
 struct Shared {
     answered: AtomicU64,
@@ -55,6 +56,7 @@ fn wait(shared: &Shared) -> bool {
 // a door that gives the requests of its connections, one a connection
 #[derive(Drop)]
 struct HeldDoor {
+    alloc: Global,
     shared: Arc<Shared, Global>,
     first: bool,
     given: u64,
@@ -70,14 +72,20 @@ fn request_of(first: bool, number: u64) -> Option<&'static [u8]> {
     }
 }
 
-// whether the bytes have these somewhere
-fn has(bytes: &[u8], part: &[u8]) -> bool {
+// the bytes from the first place on where they are so; none where they are nowhere
+fn from<'b>(bytes: &'b [u8], part: &[u8]) -> Option<&'b [u8]> {
     for start in 0..bytes.len() {
         if bytes[start..].starts_with(part) {
-            return true;
+            return Some(&bytes[start..]);
         }
     }
-    false
+    None
+}
+
+// whether a log file ends the bytes that has the second one's row, and that whoever receives it accepts
+fn has_record(alloc: Global, bytes: &[u8]) -> bool {
+    from(bytes, ROW).is_some()
+        && from(bytes, b"#version:").is_some_and(|file| audit(alloc, file).is_ok())
 }
 
 // the ends of the connection
@@ -124,7 +132,7 @@ impl Door for HeldDoor {
         if sink.held().starts_with(b"HTTP/1.1 200 OK\r\n") {
             self.shared.good.fetch_add(1, Ordering::SeqCst);
         }
-        if has(sink.held(), ROW) {
+        if has_record(self.alloc, sink.held()) {
             self.shared.recorded.store(1, Ordering::SeqCst);
         }
         if !self.first {
@@ -194,7 +202,7 @@ struct HeldOutside {
 }
 
 impl HeldOutside {
-    fn make(&mut self) -> Result<Worker<HeldDoor, HeldGate, StillClock>, AllocError>
+    fn make(&mut self, alloc: Global) -> Result<Worker<HeldDoor, HeldGate, StillClock>, AllocError>
         ensures faults { IfOk result (λ worker. worker.gate.faults ≡ 0) }
         ensures returned { self.new.returned ≡ self.old.returned }
         ensures counted { self.new.faults ≡ self.old.faults }
@@ -203,6 +211,7 @@ impl HeldOutside {
         self.hired = self.hired.saturating_add(1);
         Ok(Worker {
             door: HeldDoor {
+                alloc,
                 shared: Arc::try_clone(&self.shared)?,
                 first,
                 given: 0,
@@ -248,9 +257,9 @@ impl Outside for HeldOutside {
     fn worker<R: Threads + Wait + Sync>(
         &mut self,
         _rt: &R,
-        _alloc: Global,
+        alloc: Global,
     ) -> Result<Worker<HeldDoor, HeldGate, StillClock>, OutsideFault> {
-        match self.make() {
+        match self.make(alloc) {
             Ok(worker) => Ok(worker),
             Err(_) => Err(OutsideFault::Memory),
         }

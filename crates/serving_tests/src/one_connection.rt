@@ -6,6 +6,7 @@ use crate::tests::{home, settings_at};
 use cdni_base::{Body, TypeName};
 use edge_base::{ListClock, MemorySource, Put, Sink};
 use location_acl::{Ip, Place};
+use log_audit::audit;
 use node_core::OneHome;
 use session::{Ending, Peer, Settings, serve_session};
 use std::alloc::Global;
@@ -218,8 +219,9 @@ fn records(file: &[u8]) -> (u64, u64) {
     (ranges, others)
 }
 
-// how many of the seven answers are right, the first ones up to the first that is not
-fn right_answers(bytes: &[u8], segment: &[u8]) -> u64 {
+// how many of the seven answers are right, the first ones up to the first that is not; the last one is a log file that whoever
+// receives it accepts
+fn right_answers(alloc: Global, bytes: &[u8], segment: &[u8]) -> u64 {
     let mut rest = bytes;
     let mut right = 0u64;
     for number in 0..7 {
@@ -248,6 +250,7 @@ fn right_answers(bytes: &[u8], segment: &[u8]) -> u64 {
             _ => {
                 says(&answer, b"HTTP/1.1 200 OK\r\n", b"ptype=logging-file\r\n")
                     && records(answer.body) == (3, 0)
+                    && audit(alloc, answer.body).is_ok()
             }
         };
         if !is_right {
@@ -348,7 +351,7 @@ fn a_range_is_served_taken_back_and_served_anew(rt: HostRuntime) -> Result<(), F
     let shared = make_shared(rt.alloc())?;
     let (ending, sink, gate) = serve_bytes(&rt, rt.alloc(), &shared, REQUESTS)?;
     assert_eq!(rt;
-        right_answers(sink.held.as_slice(), gate.segment.as_slice()),
+        right_answers(rt.alloc(), sink.held.as_slice(), gate.segment.as_slice()),
         7
     );
     assert_eq!(rt; ending, Ending::Closed);

@@ -9,7 +9,7 @@ import sys
 
 ROOT = pathlib.Path(__file__).resolve().parent.parent
 NAMES = re.compile(r"((?:`\w+`, )*`\w+`)(?: and \w+ more)? \(`(\w+)`\)")
-PARTS = ("src", "specs", "must-fail")
+PARTS = ("src", "specs", "must-fail", "wrong-bodies")
 
 
 def texts_of(crate):
